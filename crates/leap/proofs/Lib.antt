@@ -1,0 +1,4 @@
+pub mod Chain
+pub mod Saying
+pub mod Offsets
+pub mod Bulletins

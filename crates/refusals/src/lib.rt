@@ -1,0 +1,4 @@
+// The closed list of refusals: everything that the product may answer in place of a result.
+pub mod fault;
+pub mod number;
+pub mod refusal;

@@ -1,0 +1,4 @@
+pub mod Hexes
+pub mod Cuts
+pub mod Bigs
+pub mod Parsing

@@ -80,7 +80,8 @@ impl Date {
         ensures last { λ r. ⌜ r ≤ last-day ⌝ }
         ensures alone { λ r. ⌜ Stands-alone (now (self .entry) .year) (now (self .entry) .month) (now (self .entry) .day) r ⌝ }
     {
-        year_start(self.year) + month_start(self.year, self.month) as u32 + (self.day - 1) as u32
+        let Date { year, month, day } = *self;
+        year_start(year) + month_start(year, month) as u32 + (day - 1) as u32
     }
 }
 

@@ -9,11 +9,10 @@ use crate::hex::write_byte;
 use crate::hex::write_u16;
 use crate::hex::write_u32;
 use crate::hex::write_u64;
+use crate::lines::LINE_FEED;
 use calls::call::Call;
 use calls::event::LicenceEvent;
 use std::alloc::AllocError;
-
-pub(crate) const LINE_FEED: u8 = b'\n';
 
 // Adds the frame of a call to a text, and a line feed.
 pub fn write_call(out: &mut Vec<u8>, call: Call<LicenceEvent>) -> Result<(), AllocError>

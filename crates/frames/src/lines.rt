@@ -5,7 +5,7 @@ ghost use lib.ListN.{length};
 ghost use Rattle.std.specs.Options.{mapped, Cases as BySome};
 ghost use Rattle.wire.specs.Lines.{line-length, Reads-line};
 
-const LINE_FEED: u8 = b'\n';
+pub(crate) const LINE_FEED: u8 = b'\n';
 
 // Reads the lines of an input, each as a part of it, and knows the place that it has come to.
 #[derive(Drop)]

@@ -1,4 +1,6 @@
 // Frames and answer lines as text.
+use answers::answer::write_answer;
+use answers::encode::write_call;
 use calls::call::Call;
 use calls::call::CallDebug;
 use calls::call::CallPartialEq;
@@ -8,9 +10,7 @@ use calls::event::Action;
 use calls::event::LicenceEvent;
 use calls::event::LicenceEventDebug;
 use calls::event::LicenceEventPartialEq;
-use frames::answer::write_answer;
 use frames::decode::decode;
-use frames::encode::write_call;
 use frames::lines::FrameReader;
 use leap::bulletin::Bulletin;
 use refusals::fault::Cause;

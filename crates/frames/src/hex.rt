@@ -1,13 +1,10 @@
 // Lower-case hexadecimal text, two digits a byte.
 ghost use mathlib.Core.Path.{_≡_};
-ghost use mathlib.Core.List.{List, [], _∷_, _++_};
+ghost use mathlib.Core.List.{List};
 ghost use Prim.Native.Nat.{ℕ, _<_, _≤_};
 ghost use lib.ListN.{length, take};
-ghost use Rattle.std.specs.Of.Vec.{vec-items};
 ghost use Rattle.std.specs.Options.{Cases as BySome};
-ghost use Rattle.std.specs.Vec.{made};
-ghost use Rattle.wire.specs.Bytes.{hex-digit, hexed, big-endian, Bytes};
-use std::alloc::AllocError;
+ghost use Rattle.wire.specs.Bytes.{hex-digit, hexed, Bytes};
 
 // No frame has more bytes.
 pub(crate) const LONGEST: usize = 25;
@@ -40,14 +37,6 @@ fn digit_value(digit: u8) -> Option<u8>
     }
 }
 
-// The digit of a value below 16.
-fn digit_of(value: u8) -> u8
-    requires { ⌜ value < 16 ⌝ }
-    ensures { λ r. ⌜ r ≡ hex-digit value ⌝ }
-{
-    if value < 10 { b'0' + value } else { b'a' + (value - 10) }
-}
-
 // The bytes that a line of text writes, if it writes any, and no more than a frame can have.
 pub(crate) fn unhex(line: &[u8]) -> Option<LineBytes>
     ensures { λ r. ⌜ BySome r ((bs : List ℕ) → Bytes bs → length bs ≤ 25 → hexed bs ≡ now (line .entry) → ⊥) (λ b. Bytes (take (b .len) (b .bytes)) × (hexed (take (b .len) (b .bytes)) ≡ now (line .entry))) ⌝ }
@@ -67,43 +56,4 @@ pub(crate) fn unhex(line: &[u8]) -> Option<LineBytes>
         bytes[i] = high * 16 + low;
     }
     Some(LineBytes { bytes, len })
-}
-
-// Adds a byte to a text.
-pub(crate) fn write_byte(out: &mut Vec<u8>, byte: u8) -> Result<(), AllocError>
-    ensures { λ r. ⌜ made r (λ _. vec-items (now (out .exit)) ≡ vec-items (now (out .entry)) ++ hexed (byte ∷ [])) ⌝ }
-{
-    out.extend_from_slice(&[digit_of(byte / 16), digit_of(byte % 16)])
-}
-
-// Adds bytes to a text.
-pub(crate) fn write_bytes(out: &mut Vec<u8>, bytes: &[u8]) -> Result<(), AllocError>
-    ensures { λ r. ⌜ made r (λ _. vec-items (now (out .exit)) ≡ vec-items (now (out .entry)) ++ hexed (now (bytes .entry))) ⌝ }
-{
-    for byte in bytes {
-        write_byte(out, *byte)?;
-    }
-    Ok(())
-}
-
-// Adds a number of 2, 4 or 8 bytes to a text, the highest byte first.
-pub(crate) fn write_u16(out: &mut Vec<u8>, n: u16) -> Result<(), AllocError>
-    ensures { λ r. ⌜ made r (λ _. vec-items (now (out .exit)) ≡ vec-items (now (out .entry)) ++ hexed (big-endian 2 n)) ⌝ }
-{
-    write_bytes(out, &n.to_be_bytes())?;
-    Ok(())
-}
-
-pub(crate) fn write_u32(out: &mut Vec<u8>, n: u32) -> Result<(), AllocError>
-    ensures { λ r. ⌜ made r (λ _. vec-items (now (out .exit)) ≡ vec-items (now (out .entry)) ++ hexed (big-endian 4 n)) ⌝ }
-{
-    write_bytes(out, &n.to_be_bytes())?;
-    Ok(())
-}
-
-pub(crate) fn write_u64(out: &mut Vec<u8>, n: u64) -> Result<(), AllocError>
-    ensures { λ r. ⌜ made r (λ _. vec-items (now (out .exit)) ≡ vec-items (now (out .entry)) ++ hexed (big-endian 8 n)) ⌝ }
-{
-    write_bytes(out, &n.to_be_bytes())?;
-    Ok(())
 }

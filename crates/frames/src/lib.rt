@@ -1,6 +1,4 @@
-// Frames: calls as lines of hexadecimal text, and the lines that answer them.
-pub mod answer;
+// Frames read: the lines of an input, and the calls that they write.
 pub mod decode;
-pub mod encode;
 mod hex;
 pub mod lines;

@@ -4,8 +4,7 @@ ghost use Prim.Native.Nat.{_+_, _≤_, _<_, min};
 ghost use lib.ListN.{length};
 ghost use Rattle.std.specs.Options.{mapped, Cases as BySome};
 ghost use Rattle.wire.specs.Lines.{line-length, Reads-line};
-
-pub(crate) const LINE_FEED: u8 = b'\n';
+use wire::text::LINE_FEED;
 
 // Reads the lines of an input, each as a part of it, and knows the place that it has come to.
 #[derive(Drop)]

@@ -84,8 +84,8 @@ pub offset-push : (o : ℕ) (es : List Entry) (e : Entry) (d : ℕ) → offset-o
 offset-push o [] e d = refl
 offset-push o (a ∷ es) e d = offset-push (cond (leb (a .day) d) (a .offset) o) es e d
 
-pub appended : (o : ℕ) (es : List Entry) (e : Entry) (d : ℕ) → d < e .day → offset-on o (es ++ e ∷ []) d ≡ offset-on o es d
-appended o es e d h = offset-push o es e d ∙ ap (λ b. cond b (e .offset) (offset-on o es d)) (lt-leb (e .day) d h)
+pub offset-appended : (o : ℕ) (es : List Entry) (e : Entry) (d : ℕ) → d < e .day → offset-on o (es ++ e ∷ []) d ≡ offset-on o es d
+offset-appended o es e d h = offset-push o es e d ∙ ap (λ b. cond b (e .offset) (offset-on o es d)) (lt-leb (e .day) d h)
 
 -- a search from the newest entry back that has come to place i: the entry before that place counts, or is passed over
 one-fewer : (es : List Entry) (i : ℕ) → 0 < i → i ≤ length es → take i es ≡ take (i - 1) es ++ at es (i - 1) ∷ []
@@ -100,7 +100,7 @@ back-found o es i d h l m =
     ∙ ap (λ b. cond b (at es (i - 1) .offset) (offset-on o (take (i - 1) es) d)) (le-leb (at es (i - 1) .day) d m)
 
 pub back-passed : (o : ℕ) (es : List Entry) (i d : ℕ) → 0 < i → i ≤ length es → d < at es (i - 1) .day → offset-on o (take i es) d ≡ offset-on o (take (i - 1) es) d
-back-passed o es i d h l m = ap (λ (xs : List Entry). offset-on o xs d) (one-fewer es i h l) ∙ appended o (take (i - 1) es) (at es (i - 1)) d m
+back-passed o es i d h l m = ap (λ (xs : List Entry). offset-on o xs d) (one-fewer es i h l) ∙ offset-appended o (take (i - 1) es) (at es (i - 1)) d m
 
 pub back-none : (o : ℕ) (es : List Entry) (i d : ℕ) → i ≤ 0 → offset-on o (take i es) d ≡ o
 back-none o es i d h = let e : i ≡ 0 = omega arith in ap (λ (n : ℕ). offset-on o (take n es) d) e
@@ -189,7 +189,7 @@ pub off-kept : {t u : Table} → Renews t u → (d : ℕ) → d ≤ t .expiry �
 off-kept {t} {u} r d l =
     elim (r .entries-stand) [
       | inl e ↦ ap (λ (es : List Entry). offset-on first-entry-offset es d) e
-      | inr p ↦ ap (λ (es : List Entry). offset-on first-entry-offset es d) (p .1) ∙ appended first-entry-offset (t .entries) (p .0) d (omega (arith, p .2))
+      | inr p ↦ ap (λ (es : List Entry). offset-on first-entry-offset es d) (p .1) ∙ offset-appended first-entry-offset (t .entries) (p .0) d (omega (arith, p .2))
     ]
 
 pub expiry-grows : {t u : Table} → Renews t u → t .expiry ≤ u .expiry

@@ -23,11 +23,10 @@ fn follows(later: Entry, earlier: Entry) -> bool
     ensures { λ r. ⌜ r ≡ next-to earlier later ⌝ }
 {
     let step = earlier.offset.abs_diff(later.offset);
-    earlier.day < later.day
-        && step >= 1
-        && step <= LARGEST_STEP
-        && later.offset <= TOP_OFFSET
-        && is_month_first(later.day)
+    if later.day <= earlier.day || step < 1 || step > LARGEST_STEP || later.offset > TOP_OFFSET {
+        return false;
+    }
+    is_month_first(later.day)
 }
 
 // Whether these are the parts of a table.

@@ -106,7 +106,8 @@ impl LeapTable {
         ensures past { λ r. ⌜ Cases r (λ _. Keeps-past (tableOf (now (self .entry))) (tableOf (now (self .exit))) × Renews (tableOf (now (self .entry))) (tableOf (now (self .exit)))) (λ _. Unit {0}) ⌝ }
         ensures sound { λ _. ⌜ Sound (tableOf (now (self .exit))) ⌝ }
     {
-        *self = self.renewed(bulletin)?;
+        let table = self.renewed(bulletin)?;
+        *self = table;
         Ok(())
     }
 }

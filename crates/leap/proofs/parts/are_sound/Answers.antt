@@ -33,10 +33,10 @@ one-more es i h p t k l =
 
 pub returns-then-not-follows : need.returns-then-not-follows
 returns-then-not-follows c =
-    (λ h. absurd (false≢true h), λ s. c .if-not-follows .ensures tt ∙ passes-at (table-from (c .args .entries .now) (c .args .expiry)) s (c .loop-i .i) (c .loop-i .kept .i) (omega arith))
+    (λ h. absurd (false≢true h), λ s. c .if-not-follows .ensures tt ∙ passes-at (table-from (c .args .entries .now) (c .args .expiry)) s (c .loop-i .i) (omega arith) (omega arith))
 
 pub loop-i-again : need.loop-i-again
-loop-i-again c = one-more (c .args .entries .now) (c .loop-i .i) (c .loop-i .kept .i) (c .loop-i .inv) (sym (c .if-not-follows .ensures tt))
+loop-i-again c = one-more (c .args .entries .now) (c .loop-i .i) (omega arith) (c .loop-i .inv) (sym (c .if-not-follows .ensures tt))
 
 pub returns : need.returns
 returns c =

@@ -6,11 +6,11 @@ use Rattle.leap.proofs.Saying.{table-sound}
 use Rattle.leap.proofs.Bulletins.{accepted-past}
 use Rattle.leap.proofs.table.LeapTable.renew.Needs as need
 
-pub returns-in-Break-self : need.returns-in-Break-self
-returns-in-Break-self c =
+pub returns-in-Break-table : need.returns-in-Break-table
+returns-in-Break-table c =
     let t = tableOf (c .args .self .now) in
     let p = err-from-errBy (c .from-residual .result) (c .from-residual .ensures .1) in
-    let e = c .in-Break-self .ensures tt in
+    let e = c .in-Break-table .ensures tt in
     rw (p .1, p .2)
     (record {
       answer = sym e;
@@ -24,8 +24,8 @@ pub returns : need.returns
 returns c =
     let t = tableOf (c .args .self .now) in
     let b = c .args .bulletin in
-    let u = c .in-Continue-self .field-0 in
-    let e = c .in-Continue-self .ensures tt in
+    let u = c .in-Continue-table .table in
+    let e = c .in-Continue-table .ensures tt in
     record {
       answer = sym (e .0);
       after = e .1 ∙ sym (ap (after-answer t (renewed t b)) (e .0));

@@ -1,0 +1,2 @@
+// The byte that closes a line.
+pub const LINE_FEED: u8 = b'\n';

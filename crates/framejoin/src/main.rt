@@ -1,6 +1,7 @@
 // framejoin: reads frames, writes answers.
 use session::run::INPUT_LIMIT;
 use session::run::answer_lines;
+use standard::bank::standard_bank;
 use std::error::AnyError;
 use std::io::Read;
 use std::io::Write;
@@ -12,7 +13,7 @@ fn main(rt: LibcRuntime) -> Result<(), AnyError> {
 fn run(rt: &LibcRuntime) -> Result<(), AnyError> {
     let mut input = Vec::new(rt.alloc());
     rt.stdin().take(INPUT_LIMIT as u64).read_to_end(&mut input)?;
-    let answers = answer_lines(rt.alloc(), input.as_slice())?;
+    let answers = answer_lines(rt.alloc(), standard_bank(), input.as_slice())?;
     rt.stdout().write_all(answers.as_slice())?;
     Ok(())
 }

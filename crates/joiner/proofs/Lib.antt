@@ -1,0 +1,5 @@
+mod Rings
+mod Masking
+mod Putting
+mod Closing
+mod Taking

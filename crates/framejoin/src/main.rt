@@ -5,6 +5,9 @@ use standard::bank::standard_bank;
 use std::error::AnyError;
 use std::io::Read;
 use std::io::Write;
+use standard::bank::PosixForm;
+use standard::bank::ScaleBank;
+use standard::bank::TaiRung;
 
 fn main(rt: LibcRuntime) -> Result<(), AnyError> {
     rt.report(run(&rt))

@@ -12,7 +12,11 @@ pub(crate) const LAST_COUNT: u64 = 7_999_999_999_999_999_999;
 
 pub(crate) const NO_COUNT: u64 = 8_000_000_000_000_000_000;
 
-pub(crate) fn rung_answers<R: Rung>(rung: &R, reads: &[(u64, Result<u64, Fault>)], shows: &[(u64, Result<u64, Fault>)]) -> Result<(), Fail> {
+pub(crate) fn rung_answers<R: Rung>(
+    rung: &R,
+    reads: &[(u64, Result<u64, Fault>)],
+    shows: &[(u64, Result<u64, Fault>)],
+) -> Result<(), Fail> {
     let table = LeapTable::starting();
     for (count, answer) in reads {
         check_eq(rung.read(&table, *count), *answer)?;
@@ -23,7 +27,11 @@ pub(crate) fn rung_answers<R: Rung>(rung: &R, reads: &[(u64, Result<u64, Fault>)
     Ok(())
 }
 
-pub(crate) fn form_answers<F: Form>(form: &F, reads: &[((u64, u64), Result<u64, Fault>)], shows: &[(u64, Result<(u64, u64), Fault>)]) -> Result<(), Fail> {
+pub(crate) fn form_answers<F: Form>(
+    form: &F,
+    reads: &[((u64, u64), Result<u64, Fault>)],
+    shows: &[(u64, Result<(u64, u64), Fault>)],
+) -> Result<(), Fail> {
     let table = LeapTable::starting();
     for (stamp, answer) in reads {
         check_eq(form.read(&table, *stamp), *answer)?;
@@ -44,7 +52,11 @@ pub(crate) fn form_ties<F: Form>(form: &F, known: &[((u64, u64), u64)]) -> Resul
     Ok(())
 }
 
-pub(crate) fn scale_answers<F: Form, R: Rung>(scale: &Scale<F, R>, reads: &[((u64, u64), Result<u64, Fault>)], shows: &[(u64, Result<(u64, u64), Fault>)]) -> Result<(), Fail> {
+pub(crate) fn scale_answers<F: Form, R: Rung>(
+    scale: &Scale<F, R>,
+    reads: &[((u64, u64), Result<u64, Fault>)],
+    shows: &[(u64, Result<(u64, u64), Fault>)],
+) -> Result<(), Fail> {
     let table = LeapTable::starting();
     for (stamp, answer) in reads {
         check_eq(scale.read_stamp(&table, *stamp), *answer)?;

@@ -31,8 +31,24 @@ const KNOWN: [((u64, u64), u64); 6] = [
 ];
 
 const READS: [((u64, u64), Result<u64, Fault>); 2] = [
-    ((1_024, 0), Err(Fault { cause: Cause::Field, rung: 0, way: Way::Reading, count: 0 })),
-    ((0, 604_800_000), Err(Fault { cause: Cause::Field, rung: 0, way: Way::Reading, count: 0 })),
+    (
+        (1_024, 0),
+        Err(Fault {
+            cause: Cause::Field,
+            rung: 0,
+            way: Way::Reading,
+            count: 0,
+        }),
+    ),
+    (
+        (0, 604_800_000),
+        Err(Fault {
+            cause: Cause::Field,
+            rung: 0,
+            way: Way::Reading,
+            count: 0,
+        }),
+    ),
 ];
 
 const SHOWS: [(u64, Result<(u64, u64), Fault>); 6] = [
@@ -40,10 +56,42 @@ const SHOWS: [(u64, Result<(u64, u64), Fault>); 6] = [
     (1_167_264_000_000_999_999, Ok((906, 0))),
     (1_167_264_000_001_999_999, Ok((906, 1))),
     // the last tick of week 1,799, and the first of week 2,824
-    (1_088_639_999_999_999_999, Err(Fault { cause: Cause::Window, rung: 0, way: Way::Showing, count: 1_088_639_999_999_999_999 })),
-    (1_707_955_200_000_000_000, Err(Fault { cause: Cause::Window, rung: 0, way: Way::Showing, count: 1_707_955_200_000_000_000 })),
-    (LAST_COUNT, Err(Fault { cause: Cause::Window, rung: 0, way: Way::Showing, count: LAST_COUNT })),
-    (NO_COUNT, Err(Fault { cause: Cause::NoCount, rung: 0, way: Way::Showing, count: NO_COUNT })),
+    (
+        1_088_639_999_999_999_999,
+        Err(Fault {
+            cause: Cause::Window,
+            rung: 0,
+            way: Way::Showing,
+            count: 1_088_639_999_999_999_999,
+        }),
+    ),
+    (
+        1_707_955_200_000_000_000,
+        Err(Fault {
+            cause: Cause::Window,
+            rung: 0,
+            way: Way::Showing,
+            count: 1_707_955_200_000_000_000,
+        }),
+    ),
+    (
+        LAST_COUNT,
+        Err(Fault {
+            cause: Cause::Window,
+            rung: 0,
+            way: Way::Showing,
+            count: LAST_COUNT,
+        }),
+    ),
+    (
+        NO_COUNT,
+        Err(Fault {
+            cause: Cause::NoCount,
+            rung: 0,
+            way: Way::Showing,
+            count: NO_COUNT,
+        }),
+    ),
 ];
 
 #[test]
@@ -55,7 +103,10 @@ fn weeks_and_milliseconds_are_read_and_shown() -> Result<(), Fail> {
 }
 
 // With the last pivot, 10,000 = 9 * 1,024 + 784, the first and the last week.
-const FINAL: [((u64, u64), u64); 2] = [((784, 0), 6_048_000_000_000_000_000), ((783, 0), 6_666_710_400_000_000_000)];
+const FINAL: [((u64, u64), u64); 2] = [
+    ((784, 0), 6_048_000_000_000_000_000),
+    ((783, 0), 6_666_710_400_000_000_000),
+];
 
 #[test]
 fn a_pivot_too_large_becomes_the_largest() -> Result<(), Fail> {

@@ -34,20 +34,85 @@ const KNOWN: [((u64, u64), u64); 7] = [
 const READS: [((u64, u64), Result<u64, Fault>); 7] = [
     ((3_692_217_600, 1), Ok(1_483_228_800_000_000_001)),
     ((3_692_217_600, 5), Ok(1_483_228_800_000_000_002)),
-    ((3_692_217_600, 4_294_967_292), Ok(1_483_228_801_000_000_000)),
-    ((3_692_217_600, 4_294_967_295), Ok(1_483_228_801_000_000_000)),
+    (
+        (3_692_217_600, 4_294_967_292),
+        Ok(1_483_228_801_000_000_000),
+    ),
+    (
+        (3_692_217_600, 4_294_967_295),
+        Ok(1_483_228_801_000_000_000),
+    ),
     // the last fraction of the era carries out of its window
-    ((3_155_673_599, 4_294_967_295), Ok(5_241_652_096_000_000_000)),
-    ((4_294_967_296, 0), Err(Fault { cause: Cause::Field, rung: 0, way: Way::Reading, count: 0 })),
-    ((0, 4_294_967_296), Err(Fault { cause: Cause::Field, rung: 0, way: Way::Reading, count: 0 })),
+    (
+        (3_155_673_599, 4_294_967_295),
+        Ok(5_241_652_096_000_000_000),
+    ),
+    (
+        (4_294_967_296, 0),
+        Err(Fault {
+            cause: Cause::Field,
+            rung: 0,
+            way: Way::Reading,
+            count: 0,
+        }),
+    ),
+    (
+        (0, 4_294_967_296),
+        Err(Fault {
+            cause: Cause::Field,
+            rung: 0,
+            way: Way::Reading,
+            count: 0,
+        }),
+    ),
 ];
 
 const SHOWS: [(u64, Result<(u64, u64), Fault>); 5] = [
-    (0, Err(Fault { cause: Cause::Window, rung: 0, way: Way::Showing, count: 0 })),
-    (946_684_799_999_999_999, Err(Fault { cause: Cause::Window, rung: 0, way: Way::Showing, count: 946_684_799_999_999_999 })),
-    (5_241_652_096_000_000_000, Err(Fault { cause: Cause::Window, rung: 0, way: Way::Showing, count: 5_241_652_096_000_000_000 })),
-    (LAST_COUNT, Err(Fault { cause: Cause::Window, rung: 0, way: Way::Showing, count: LAST_COUNT })),
-    (NO_COUNT, Err(Fault { cause: Cause::NoCount, rung: 0, way: Way::Showing, count: NO_COUNT })),
+    (
+        0,
+        Err(Fault {
+            cause: Cause::Window,
+            rung: 0,
+            way: Way::Showing,
+            count: 0,
+        }),
+    ),
+    (
+        946_684_799_999_999_999,
+        Err(Fault {
+            cause: Cause::Window,
+            rung: 0,
+            way: Way::Showing,
+            count: 946_684_799_999_999_999,
+        }),
+    ),
+    (
+        5_241_652_096_000_000_000,
+        Err(Fault {
+            cause: Cause::Window,
+            rung: 0,
+            way: Way::Showing,
+            count: 5_241_652_096_000_000_000,
+        }),
+    ),
+    (
+        LAST_COUNT,
+        Err(Fault {
+            cause: Cause::Window,
+            rung: 0,
+            way: Way::Showing,
+            count: LAST_COUNT,
+        }),
+    ),
+    (
+        NO_COUNT,
+        Err(Fault {
+            cause: Cause::NoCount,
+            rung: 0,
+            way: Way::Showing,
+            count: NO_COUNT,
+        }),
+    ),
 ];
 
 #[test]
@@ -58,9 +123,15 @@ fn seconds_and_fractions_are_read_and_shown() -> Result<(), Fail> {
 }
 
 // With the first and the last pivot, the first and the last second.
-const FIRST: [((u64, u64), u64); 2] = [((2_208_988_800, 0), 0), ((2_208_988_799, 0), 4_294_967_295_000_000_000)];
+const FIRST: [((u64, u64), u64); 2] = [
+    ((2_208_988_800, 0), 0),
+    ((2_208_988_799, 0), 4_294_967_295_000_000_000),
+];
 
-const FINAL: [((u64, u64), u64); 2] = [((1_605_032_704, 0), 3_691_011_200_000_000_000), ((1_605_032_703, 0), 7_985_978_495_000_000_000)];
+const FINAL: [((u64, u64), u64); 2] = [
+    ((1_605_032_704, 0), 3_691_011_200_000_000_000),
+    ((1_605_032_703, 0), 7_985_978_495_000_000_000),
+];
 
 #[test]
 fn a_pivot_outside_its_limits_becomes_the_nearest() -> Result<(), Fail> {

@@ -19,14 +19,54 @@ const KNOWN: [((u64, u64), u64); 5] = [
 ];
 
 const READS: [((u64, u64), Result<u64, Fault>); 3] = [
-    ((8_000_000_000, 0), Err(Fault { cause: Cause::Field, rung: 0, way: Way::Reading, count: 0 })),
-    ((0, 1_000_000_000), Err(Fault { cause: Cause::Field, rung: 0, way: Way::Reading, count: 0 })),
-    ((u64::MAX, u64::MAX), Err(Fault { cause: Cause::Field, rung: 0, way: Way::Reading, count: 0 })),
+    (
+        (8_000_000_000, 0),
+        Err(Fault {
+            cause: Cause::Field,
+            rung: 0,
+            way: Way::Reading,
+            count: 0,
+        }),
+    ),
+    (
+        (0, 1_000_000_000),
+        Err(Fault {
+            cause: Cause::Field,
+            rung: 0,
+            way: Way::Reading,
+            count: 0,
+        }),
+    ),
+    (
+        (u64::MAX, u64::MAX),
+        Err(Fault {
+            cause: Cause::Field,
+            rung: 0,
+            way: Way::Reading,
+            count: 0,
+        }),
+    ),
 ];
 
 const SHOWS: [(u64, Result<(u64, u64), Fault>); 2] = [
-    (NO_COUNT, Err(Fault { cause: Cause::NoCount, rung: 0, way: Way::Showing, count: NO_COUNT })),
-    (u64::MAX, Err(Fault { cause: Cause::NoCount, rung: 0, way: Way::Showing, count: u64::MAX })),
+    (
+        NO_COUNT,
+        Err(Fault {
+            cause: Cause::NoCount,
+            rung: 0,
+            way: Way::Showing,
+            count: NO_COUNT,
+        }),
+    ),
+    (
+        u64::MAX,
+        Err(Fault {
+            cause: Cause::NoCount,
+            rung: 0,
+            way: Way::Showing,
+            count: u64::MAX,
+        }),
+    ),
 ];
 
 #[test]

@@ -26,8 +26,9 @@ module _ (u v : BankMeaning) where
 
   pub beside-lawful : LawfulBank u → LawfulBank v → LawfulBank (beside u v)
   beside-lawful lu lv f h = elim (cases-lt f (u .feeds)) [
-      inl l ↦ subst LawfulForm (sym (left-scale f l)) (lu f l)
-    | inr g ↦ subst LawfulForm (sym (right-scale f g)) (lv (f - u .feeds) (omega arith)) ]
+    | inl l ↦ subst LawfulForm (sym (left-scale f l)) (lu f l)
+    | inr g ↦ subst LawfulForm (sym (right-scale f g)) (lv (f - u .feeds) (omega arith))
+  ]
 
   -- a feed of the whole is one of the left bank or, its number less those of the left, one of the right
   module _ {A : Type 0} (answer : FormMeaning → Result A Refusal) where
@@ -40,8 +41,9 @@ module _ (u v : BankMeaning) where
     from-right f h g =
         let small : f - u .feeds < 64 = omega arith in
         elim (cases-lt f (u .feeds + v .feeds)) [
-          inl l ↦ let in-right : f - u .feeds < v .feeds = omega arith in rw (lt-ltb f 64 h, lt-ltb (f - u .feeds) 64 small, le-ltb f (u .feeds) g, lt-ltb f (u .feeds + v .feeds) l, lt-ltb (f - u .feeds) (v .feeds) in-right)
-        | inr k ↦ let past : v .feeds ≤ f - u .feeds = omega arith in rw (lt-ltb f 64 h, lt-ltb (f - u .feeds) 64 small, le-ltb f (u .feeds + v .feeds) k, le-ltb (f - u .feeds) (v .feeds) past) ]
+          | inl l ↦ let in-right : f - u .feeds < v .feeds = omega arith in rw (lt-ltb f 64 h, lt-ltb (f - u .feeds) 64 small, le-ltb f (u .feeds) g, lt-ltb f (u .feeds + v .feeds) l, lt-ltb (f - u .feeds) (v .feeds) in-right)
+          | inr k ↦ let past : v .feeds ≤ f - u .feeds = omega arith in rw (lt-ltb f 64 h, lt-ltb (f - u .feeds) 64 small, le-ltb f (u .feeds + v .feeds) k, le-ltb (f - u .feeds) (v .feeds) past)
+        ]
 
     pub from-none : (f : ℕ) → 64 ≤ f → _≡_ {A = Result A Refusal} (Err NoFeed) (of-feed (beside u v) f (answer (beside u v .scale-of f)))
     from-none f h = rw (le-ltb f 64 h)

@@ -23,18 +23,18 @@ tai-shown t n e = let p = was-count Showing n (Ok n) e in (p .0, same {x = Ok n}
 
 pub tai-lawful : LawfulRung tai
 tai-lawful = record {
-    reads-counts = λ {t} {r} z e. let p = tai-read t r e in (p .0, omega arith);
-    shows-counts = λ {t} {n} z e. let p = tai-shown t n e in (p .0, omega arith);
-    reads-rise = λ {t} {r} {s} z e f h. let p = tai-read t r e in let q = tai-read t s f in omega arith;
-    shown-is-read = λ {t} {n} {s} z e. let p = tai-shown t n e in (s, is-count Reading s (Ok s) (omega arith));
-    reads-meet-shows = λ {t} {r} {a} {n} {s} z e f. let p = tai-read t r e in let q = tai-shown t n f in (λ h. omega arith, λ h. omega arith);
-    within-loss = λ {t} {n} {s} {a} z e f. let p = tai-shown t n e in let q = tai-read t s f in (omega arith, omega arith);
-    within-spread = λ {t} {r} {s} z e f h. let p = tai-read t r e in let q = tai-read t s f in omega arith;
-    spread-grows = λ h. h;
-    spread-covers = λ n. omega arith;
-    reads-kept = λ s k e. e;
-    shows-kept = λ s k e. e;
-  }
+  reads-counts = λ {t} {r} z e. let p = tai-read t r e in (p .0, omega arith);
+  shows-counts = λ {t} {n} z e. let p = tai-shown t n e in (p .0, omega arith);
+  reads-rise = λ {t} {r} {s} z e f h. let p = tai-read t r e in let q = tai-read t s f in omega arith;
+  shown-is-read = λ {t} {n} {s} z e. let p = tai-shown t n e in (s, is-count Reading s (Ok s) (omega arith));
+  reads-meet-shows = λ {t} {r} {a} {n} {s} z e f. let p = tai-read t r e in let q = tai-shown t n f in (λ h. omega arith, λ h. omega arith);
+  within-loss = λ {t} {n} {s} {a} z e f. let p = tai-shown t n e in let q = tai-read t s f in (omega arith, omega arith);
+  within-spread = λ {t} {r} {s} z e f h. let p = tai-read t r e in let q = tai-read t s f in omega arith;
+  spread-grows = λ h. h;
+  spread-covers = λ n. omega arith;
+  reads-kept = λ s k e. e;
+  shows-kept = λ s k e. e;
+}
 
 -- offsets
 module _ (k : ℕ) where
@@ -55,18 +55,18 @@ module _ (k : ℕ) where
 
   pub offset-lawful : LawfulRung (offset k)
   offset-lawful = record {
-      reads-counts = λ {t} {r} z e. let p = offset-read t r e in (p .0, p .1);
-      shows-counts = λ {t} {n} z e. let p = offset-shown t n e in (p .0, omega arith);
-      reads-rise = λ {t} {r} {s} z e f h. let p = offset-read t r e in let q = offset-read t s f in omega arith;
-      shown-is-read = λ {t} {n} {s} z e. let p = offset-shown t n e in (s + k, offset-reads t s (omega arith));
-      reads-meet-shows = λ {t} {r} {a} {n} {s} z e f. let p = offset-read t r e in let q = offset-shown t n f in (λ h. omega arith, λ h. omega arith);
-      within-loss = λ {t} {n} {s} {a} z e f. let p = offset-shown t n e in let q = offset-read t s f in (omega arith, omega arith);
-      within-spread = λ {t} {r} {s} z e f h. let p = offset-read t r e in let q = offset-read t s f in omega arith;
-      spread-grows = λ h. h;
-      spread-covers = λ n. omega arith;
-      reads-kept = λ s k e. e;
-      shows-kept = λ s k e. e;
-    }
+    reads-counts = λ {t} {r} z e. let p = offset-read t r e in (p .0, p .1);
+    shows-counts = λ {t} {n} z e. let p = offset-shown t n e in (p .0, omega arith);
+    reads-rise = λ {t} {r} {s} z e f h. let p = offset-read t r e in let q = offset-read t s f in omega arith;
+    shown-is-read = λ {t} {n} {s} z e. let p = offset-shown t n e in (s + k, offset-reads t s (omega arith));
+    reads-meet-shows = λ {t} {r} {a} {n} {s} z e f. let p = offset-read t r e in let q = offset-shown t n f in (λ h. omega arith, λ h. omega arith);
+    within-loss = λ {t} {n} {s} {a} z e f. let p = offset-shown t n e in let q = offset-read t s f in (omega arith, omega arith);
+    within-spread = λ {t} {r} {s} z e f h. let p = offset-read t r e in let q = offset-read t s f in omega arith;
+    spread-grows = λ h. h;
+    spread-covers = λ n. omega arith;
+    reads-kept = λ s k e. e;
+    shows-kept = λ s k e. e;
+  }
 
 -- coarse clocks
 module _ (w : ℕ) (some : 1 ≤ w) where
@@ -102,16 +102,16 @@ module _ (w : ℕ) (some : 1 ≤ w) where
 
   pub coarse-lawful : LawfulRung (coarse w)
   coarse-lawful = record {
-      reads-counts = λ {t} {r} z e. let p = coarse-read t r e in (p .0, omega arith);
-      shows-counts = λ {t} {n} z e. let p = coarse-shown t n e in (p .0, omega arith);
-      reads-rise = λ {t} {r} {s} z e f h. let p = coarse-read t r e in let q = coarse-read t s f in omega arith;
-      shown-is-read = λ {t} {n} {s} z e. let p = coarse-shown t n e in (s, coarse-reads t s (omega arith) (ap (λ (x : ℕ). x % w) (p .1) ∙ is-multiple n));
-      reads-meet-shows = λ {t} {r} {a} {n} {s} z e f. let p = coarse-read t r e in let q = coarse-shown t n f in
-          (λ h. let l = last-multiple r n (p .1) (omega arith) in omega arith, λ h. omega arith);
-      within-loss = λ {t} {n} {s} {a} z e f. let p = coarse-shown t n e in let q = coarse-read t s f in let r = rest-small n in (omega arith, omega arith);
-      within-spread = λ {t} {r} {s} z e f h. let p = coarse-read t r e in let q = coarse-read t s f in omega arith;
-      spread-grows = λ h. h;
-      spread-covers = λ n. omega arith;
-      reads-kept = λ s k e. e;
-      shows-kept = λ s k e. e;
-    }
+    reads-counts = λ {t} {r} z e. let p = coarse-read t r e in (p .0, omega arith);
+    shows-counts = λ {t} {n} z e. let p = coarse-shown t n e in (p .0, omega arith);
+    reads-rise = λ {t} {r} {s} z e f h. let p = coarse-read t r e in let q = coarse-read t s f in omega arith;
+    shown-is-read = λ {t} {n} {s} z e. let p = coarse-shown t n e in (s, coarse-reads t s (omega arith) (ap (λ (x : ℕ). x % w) (p .1) ∙ is-multiple n));
+    reads-meet-shows = λ {t} {r} {a} {n} {s} z e f. let p = coarse-read t r e in let q = coarse-shown t n f in
+        (λ h. let l = last-multiple r n (p .1) (omega arith) in omega arith, λ h. omega arith);
+    within-loss = λ {t} {n} {s} {a} z e f. let p = coarse-shown t n e in let q = coarse-read t s f in let r = rest-small n in (omega arith, omega arith);
+    within-spread = λ {t} {r} {s} z e f h. let p = coarse-read t r e in let q = coarse-read t s f in omega arith;
+    spread-grows = λ h. h;
+    spread-covers = λ n. omega arith;
+    reads-kept = λ s k e. e;
+    shows-kept = λ s k e. e;
+  }

@@ -46,13 +46,13 @@ posix-shown t n e =
 
 pub posix-lawful : LawfulForm posix
 posix-lawful = record {
-    reads-counts = λ {t} {p} z e. let q = posix-read t p e in omega arith;
-    shows-counts = λ {t} {n} z e. posix-shown t n e .0;
-    shown-is-read = λ {t} {n} {p} z e. let q = posix-shown t n e in (p .0 * second + p .1, fields-reads 8000000000 second (p .0) (p .1) (p .0 * second + p .1) (omega arith) (omega arith));
-    within-loss = λ {t} {n} {a} {p} z e f. let q = posix-shown t n e in let r = posix-read t p f in (omega arith, omega arith);
-    reads-kept = λ z k e. e;
-    shows-kept = λ z k e. e;
-  }
+  reads-counts = λ {t} {p} z e. let q = posix-read t p e in omega arith;
+  shows-counts = λ {t} {n} z e. posix-shown t n e .0;
+  shown-is-read = λ {t} {n} {p} z e. let q = posix-shown t n e in (p .0 * second + p .1, fields-reads 8000000000 second (p .0) (p .1) (p .0 * second + p .1) (omega arith) (omega arith));
+  within-loss = λ {t} {n} {a} {p} z e f. let q = posix-shown t n e in let r = posix-read t p f in (omega arith, omega arith);
+  reads-kept = λ z k e. e;
+  shows-kept = λ z k e. e;
+}
 
 -- the full number that a pivot says
 pub ntp-full : (pivot h : ℕ) → h < era → The-one era pivot h (full era pivot h)
@@ -78,7 +78,7 @@ module _ (pivot : ℕ) (low : ntp-1970 ≤ pivot) (high : pivot ≤ last-ntp-piv
 
   -- what was shown is read as it was
   ntp-back : (n : ℕ) (p : Stamp) → pivot ≤ n / second + ntp-1970 → n / second + ntp-1970 < pivot + era → p .0 ≡ (n / second + ntp-1970) % era → p .1 ≡ n % second * era / second
-    → (p .0 < era) × (p .1 < era) × ((full era pivot (p .0) - ntp-1970) * second + up (p .1 * second) era ≡ n)
+      → (p .0 < era) × (p .1 < era) × ((full era pivot (p .0) - ntp-1970) * second + up (p .1 * second) era ≡ n)
   ntp-back n p a b c d =
       let small : p .0 < era = omega arith in
       let whole : n / second + ntp-1970 ≡ full era pivot (p .0) = ntp-full pivot (p .0) small .only (n / second + ntp-1970) a b (sym c) in
@@ -87,14 +87,14 @@ module _ (pivot : ℕ) (low : ntp-1970 ≤ pivot) (high : pivot ≤ last-ntp-piv
 
   pub ntp-lawful : LawfulForm (ntp pivot)
   ntp-lawful = record {
-      reads-counts = λ {t} {p} z e. let q = ntp-read t p e in let w = ntp-full pivot (p .0) (q .0) in omega (arith, w .below-end);
-      shows-counts = λ {t} {n} z e. ntp-shown t n e .0;
-      shown-is-read = λ {t} {n} {p} z e. let q = ntp-shown t n e in let b = ntp-back n p (q .1) (q .2) (q .3) (q .4) in
-          (_, fields-reads era era (p .0) (p .1) ((full era pivot (p .0) - ntp-1970) * second + up (p .1 * second) era) (b .0) (b .1));
-      within-loss = λ {t} {n} {a} {p} z e f. let q = ntp-shown t n e in let r = ntp-read t p f in let b = ntp-back n p (q .1) (q .2) (q .3) (q .4) in (omega arith, omega arith);
-      reads-kept = λ z k e. e;
-      shows-kept = λ z k e. e;
-    }
+    reads-counts = λ {t} {p} z e. let q = ntp-read t p e in let w = ntp-full pivot (p .0) (q .0) in omega (arith, w .below-end);
+    shows-counts = λ {t} {n} z e. ntp-shown t n e .0;
+    shown-is-read = λ {t} {n} {p} z e. let q = ntp-shown t n e in let b = ntp-back n p (q .1) (q .2) (q .3) (q .4) in
+        (_, fields-reads era era (p .0) (p .1) ((full era pivot (p .0) - ntp-1970) * second + up (p .1 * second) era) (b .0) (b .1));
+    within-loss = λ {t} {n} {a} {p} z e f. let q = ntp-shown t n e in let r = ntp-read t p f in let b = ntp-back n p (q .1) (q .2) (q .3) (q .4) in (omega arith, omega arith);
+    reads-kept = λ z k e. e;
+    shows-kept = λ z k e. e;
+  }
 
 -- GPS
 module _ (pivot : ℕ) (high : pivot ≤ last-gps-pivot) where
@@ -112,11 +112,11 @@ module _ (pivot : ℕ) (high : pivot ≤ last-gps-pivot) where
 
   pub gps-lawful : LawfulForm (gps pivot)
   gps-lawful = record {
-      reads-counts = λ {t} {p} z e. let q = gps-read t p e in let w = gps-full pivot (p .0) (q .0) in omega (arith, w .below-end);
-      shows-counts = λ {t} {n} z e. gps-shown t n e .0;
-      shown-is-read = λ {t} {n} {p} z e. let q = gps-shown t n e in let b = gps-back n p (q .1) (q .2) (q .3) in
-          (_, fields-reads gps-turn week-millis (p .0) (p .1) (full gps-turn pivot (p .0) * week + p .1 * millisecond) (b .0) (omega arith));
-      within-loss = λ {t} {n} {a} {p} z e f. let q = gps-shown t n e in let r = gps-read t p f in let b = gps-back n p (q .1) (q .2) (q .3) in (omega arith, omega arith);
-      reads-kept = λ z k e. e;
-      shows-kept = λ z k e. e;
-    }
+    reads-counts = λ {t} {p} z e. let q = gps-read t p e in let w = gps-full pivot (p .0) (q .0) in omega (arith, w .below-end);
+    shows-counts = λ {t} {n} z e. gps-shown t n e .0;
+    shown-is-read = λ {t} {n} {p} z e. let q = gps-shown t n e in let b = gps-back n p (q .1) (q .2) (q .3) in
+        (_, fields-reads gps-turn week-millis (p .0) (p .1) (full gps-turn pivot (p .0) * week + p .1 * millisecond) (b .0) (omega arith));
+    within-loss = λ {t} {n} {a} {p} z e f. let q = gps-shown t n e in let r = gps-read t p f in let b = gps-back n p (q .1) (q .2) (q .3) in (omega arith, omega arith);
+    reads-kept = λ z k e. e;
+    shows-kept = λ z k e. e;
+  }

@@ -22,9 +22,9 @@ then-do (Err e) f = Err e
 -- It reads by both. It shows by four steps: the lower shows, the upper shows that, the upper reads it back, and the lower must read that.
 abbrev pub pile : RungMeaning → RungMeaning → RungMeaning
 pile u v = record {
-    reads = λ t r. then-do (u .reads t r) (λ x. lowered (u .rungs) (v .reads t x));
-    shows = λ t n. then-do (lowered (u .rungs) (v .shows t n)) (λ x. then-do (u .shows t x) (λ y. then-do (u .reads t y) (λ z. then-do (lowered (u .rungs) (v .reads t z)) (λ _. Ok y))));
-    loss = v .loss + v .spread (u .loss);
-    spread = λ n. v .spread (u .spread n);
-    rungs = u .rungs + v .rungs;
-  }
+  reads = λ t r. then-do (u .reads t r) (λ x. lowered (u .rungs) (v .reads t x));
+  shows = λ t n. then-do (lowered (u .rungs) (v .shows t n)) (λ x. then-do (u .shows t x) (λ y. then-do (u .reads t y) (λ z. then-do (lowered (u .rungs) (v .reads t z)) (λ _. Ok y))));
+  loss = v .loss + v .spread (u .loss);
+  spread = λ n. v .spread (u .spread n);
+  rungs = u .rungs + v .rungs;
+}

@@ -12,12 +12,12 @@ use Rattle.clocks.specs.Rungs.{RungMeaning, refused-if, counted, answered}
 -- TAI: both maps are the identity
 abbrev pub tai : RungMeaning
 tai = record {
-    reads = λ t r. counted Reading r (Ok r);
-    shows = λ t n. counted Showing n (Ok n);
-    loss = 0;
-    spread = λ n. n;
-    rungs = 1;
-  }
+  reads = λ t r. counted Reading r (Ok r);
+  shows = λ t n. counted Showing n (Ok n);
+  loss = 0;
+  spread = λ n. n;
+  rungs = 1;
+}
 
 -- the largest offset
 abbrev pub offset-limit : ℕ
@@ -26,12 +26,12 @@ offset-limit = 7999999999999999999
 -- an offset k reads r as r + k, and showing undoes it: a count below k would be shown as no count
 abbrev pub offset : ℕ → RungMeaning
 offset k = record {
-    reads = λ t r. counted Reading r (answered Reading r (r + k));
-    shows = λ t n. counted Showing n (refused-if (ltb n k) NoCount Showing n (Ok (n - k)));
-    loss = 0;
-    spread = λ n. n;
-    rungs = 1;
-  }
+  reads = λ t r. counted Reading r (answered Reading r (r + k));
+  shows = λ t n. counted Showing n (refused-if (ltb n k) NoCount Showing n (Ok (n - k)));
+  loss = 0;
+  spread = λ n. n;
+  rungs = 1;
+}
 
 abbrev pub coarse-limit : ℕ
 coarse-limit = 10000000000000
@@ -39,9 +39,9 @@ coarse-limit = 10000000000000
 -- a coarse clock of step w reads its multiples as themselves, and shows the last multiple
 abbrev pub coarse : ℕ → RungMeaning
 coarse w = record {
-    reads = λ t r. counted Reading r (refused-if (ltb 0 (r % w)) NotMultiple Reading r (Ok r));
-    shows = λ t n. counted Showing n (Ok (n - n % w));
-    loss = w - 1;
-    spread = λ n. n;
-    rungs = 1;
-  }
+  reads = λ t r. counted Reading r (refused-if (ltb 0 (r % w)) NotMultiple Reading r (Ok r));
+  shows = λ t n. counted Showing n (Ok (n - n % w));
+  loss = w - 1;
+  spread = λ n. n;
+  rungs = 1;
+}

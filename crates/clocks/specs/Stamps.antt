@@ -19,10 +19,10 @@ fields-if wrong a = refused-if wrong Field Reading 0 a
 -- POSIX: hi seconds, lo nanoseconds
 abbrev pub posix : FormMeaning
 posix = record {
-    reads = λ t p. fields-if (leb 8000000000 (p .0) || leb second (p .1)) (Ok (p .0 * second + p .1));
-    shows = λ t n. counted Showing n (Ok (n / second, n % second));
-    loss = 0;
-  }
+  reads = λ t p. fields-if (leb 8000000000 (p .0) || leb second (p .1)) (Ok (p .0 * second + p .1));
+  shows = λ t n. counted Showing n (Ok (n / second, n % second));
+  loss = 0;
+}
 
 -- s is the one number from pivot on, and below pivot + turn, that leaves h on division by turn
 pub record The-one (turn pivot h s : ℕ) : Type 0 where
@@ -53,12 +53,12 @@ up x k = (x + (k - 1)) / k
 -- NTP with a pivot: hi seconds of an era and lo fractions, of which the era is the one that the pivot says
 abbrev pub ntp : ℕ → FormMeaning
 ntp pivot = record {
-    reads = λ t p. fields-if (leb era (p .0) || leb era (p .1)) (Ok ((full era pivot (p .0) - ntp-1970) * second + up (p .1 * second) era));
-    shows = λ t n. counted Showing n (
+  reads = λ t p. fields-if (leb era (p .0) || leb era (p .1)) (Ok ((full era pivot (p .0) - ntp-1970) * second + up (p .1 * second) era));
+  shows = λ t n. counted Showing n (
       refused-if (ltb (n / second + ntp-1970) pivot || leb (pivot + era) (n / second + ntp-1970)) Window Showing n
       (Ok ((n / second + ntp-1970) % era, n % second * era / second)));
-    loss = 0;
-  }
+  loss = 0;
+}
 
 -- the weeks of a GPS turn, and a week in milliseconds and in ticks
 abbrev pub gps-turn : ℕ
@@ -79,9 +79,9 @@ last-gps-pivot = 10000
 -- GPS with a pivot week: hi the week of a turn, lo milliseconds of the week; counts begin with 1980-01-06
 abbrev pub gps : ℕ → FormMeaning
 gps pivot = record {
-    reads = λ t p. fields-if (leb gps-turn (p .0) || leb week-millis (p .1)) (Ok (full gps-turn pivot (p .0) * week + p .1 * millisecond));
-    shows = λ t n. counted Showing n (
+  reads = λ t p. fields-if (leb gps-turn (p .0) || leb week-millis (p .1)) (Ok (full gps-turn pivot (p .0) * week + p .1 * millisecond));
+  shows = λ t n. counted Showing n (
       refused-if (ltb (n / week) pivot || leb (pivot + gps-turn) (n / week)) Window Showing n
       (Ok (n / week % gps-turn, n % week / millisecond)));
-    loss = 999999;
-  }
+  loss = 999999;
+}

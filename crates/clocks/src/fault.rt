@@ -10,7 +10,12 @@ use refusals::fault::Way;
 pub fn own_fault(cause: Cause, way: Way, count: u64) -> Fault
     ensures { λ r. ⌜ r ≡ own-fault cause way count ⌝ }
 {
-    Fault { cause, rung: 0, way, count }
+    Fault {
+        cause,
+        rung: 0,
+        way,
+        count,
+    }
 }
 
 // An answer of a rung that has so many above it: its faults count them in, up to 255.
@@ -19,6 +24,11 @@ pub fn lower_by(above: u8, answer: Result<u64, Fault>) -> Result<u64, Fault>
 {
     match answer {
         Ok(count) => Ok(count),
-        Err(fault) => Err(Fault { cause: fault.cause, rung: above.saturating_add(fault.rung), way: fault.way, count: fault.count }),
+        Err(fault) => Err(Fault {
+            cause: fault.cause,
+            rung: above.saturating_add(fault.rung),
+            way: fault.way,
+            count: fault.count,
+        }),
     }
 }

@@ -35,7 +35,9 @@ impl Gps {
         ensures pivot { λ r. ⌜ r .pivot ≡ min last-gps-pivot pivot ⌝ }
         ensures full { λ r. ⌜ ((hi : ℕ) → hi < gps-turn → The-one gps-turn (r .pivot) hi (full gps-turn (r .pivot) hi)) ⌝ }
     {
-        Gps { pivot: pivot.min(LAST_PIVOT) }
+        Gps {
+            pivot: pivot.min(LAST_PIVOT),
+        }
     }
 }
 

@@ -33,7 +33,9 @@ impl Ntp {
         ensures pivot { λ r. ⌜ r .pivot ≡ min last-ntp-pivot (max ntp-1970 pivot) ⌝ }
         ensures full { λ r. ⌜ ((hi : ℕ) → hi < era → The-one era (r .pivot) hi (full era (r .pivot) hi)) ⌝ }
     {
-        Ntp { pivot: pivot.max(NTP_1970).min(LAST_PIVOT) }
+        Ntp {
+            pivot: pivot.max(NTP_1970).min(LAST_PIVOT),
+        }
     }
 }
 

@@ -46,14 +46,26 @@ pub impl fmt::Display for Refusal as RefusalDisplay {
             Refusal::FeedClosed => f.pad("the feed is closing or closed"),
             Refusal::FeedHolding => f.pad("the feed holds a record that was not taken yet"),
             Refusal::Clock(fault) => fault.cause.fmt(f),
-            Refusal::Behind => f.pad("the tick lies before the last accepted one, whichever its feed"),
+            Refusal::Behind => f.pad(
+                "the tick lies before the last accepted one, whichever its feed",
+            ),
             Refusal::LossTooLarge => f.pad("the feed's loss, as told, is 10^12"),
             Refusal::NoneWaits { .. } => f.pad("no record waits, and a feed is idle"),
-            Refusal::AllClosed => f.pad("no record waits, and all feeds are closed or there are none"),
-            Refusal::BadChange => f.pad("a bulletin's change is above 2, or is 0 with a day other than 0"),
-            Refusal::BadExpiry => f.pad("a bulletin's expiry lies before the present one, or after 84,006"),
-            Refusal::BadDay => f.pad("a bulletin's day does not lie strictly between the two expiries, or is no first of a month"),
-            Refusal::TableLimit => f.pad("the leap table has 64 entries, or the offset would leave 0 to 99"),
+            Refusal::AllClosed => f.pad(
+                "no record waits, and all feeds are closed or there are none",
+            ),
+            Refusal::BadChange => f.pad(
+                "a bulletin's change is above 2, or is 0 with a day other than 0",
+            ),
+            Refusal::BadExpiry => f.pad(
+                "a bulletin's expiry lies before the present one, or after 84,006",
+            ),
+            Refusal::BadDay => f.pad(
+                "a bulletin's day does not lie strictly between the two expiries, or is no first of a month",
+            ),
+            Refusal::TableLimit => f.pad(
+                "the leap table has 64 entries, or the offset would leave 0 to 99",
+            ),
         }
     }
 }

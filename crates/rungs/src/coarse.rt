@@ -26,7 +26,9 @@ impl Coarse {
     pub fn new(step: u64) -> Coarse
         ensures { λ r. ⌜ r .step ≡ min coarse-limit (max 1 step) ⌝ }
     {
-        Coarse { step: step.max(1).min(LARGEST_STEP) }
+        Coarse {
+            step: step.max(1).min(LARGEST_STEP),
+        }
     }
 }
 

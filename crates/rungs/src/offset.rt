@@ -23,7 +23,9 @@ impl Offset {
     pub fn new(by: u64) -> Offset
         ensures { λ r. ⌜ r .by ≡ min offset-limit by ⌝ }
     {
-        Offset { by: by.min(COUNT_END - 1) }
+        Offset {
+            by: by.min(COUNT_END - 1),
+        }
     }
 }
 

@@ -39,16 +39,44 @@ fn main(rt: LibcRuntime) -> Result<(), AnyError> {
 
 fn run(rt: &LibcRuntime) -> Result<(), AnyError> {
     let table = LeapTable::starting();
-    println!(rt, "form           hi          lo           is read as  shown as hi          lo")?;
-    print_stamp(rt, &table, "POSIX", &Scale { form: Posix, rung: Tai }, (1_483_228_837, 5))?;
-    print_stamp(rt, &table, "NTP", &Scale { form: Ntp::new(NTP_PIVOT), rung: Tai }, (3_692_217_600, 2_147_483_648))?;
-    let rung = Pile { upper: Offset::new(GPS_BEHIND), lower: Tai };
-    print_stamp(rt, &table, "GPS", &Scale { form: Gps::new(GPS_PIVOT), rung }, (906, 18_000))?;
+    print_forms(rt, &table)?;
+    println!(rt)?;
     print_pile(rt, &table)
 }
 
+fn print_forms(rt: &LibcRuntime, table: &LeapTable) -> Result<(), AnyError> {
+    let posix = Scale {
+        form: Posix,
+        rung: Tai,
+    };
+    let ntp = Scale {
+        form: Ntp::new(NTP_PIVOT),
+        rung: Tai,
+    };
+    let gps = Scale {
+        form: Gps::new(GPS_PIVOT),
+        rung: Pile {
+            upper: Offset::new(GPS_BEHIND),
+            lower: Tai,
+        },
+    };
+    println!(
+        rt,
+        "form           hi          lo           is read as  shown as hi          lo"
+    )?;
+    print_stamp(rt, table, "POSIX", &posix, (1_483_228_837, 5))?;
+    print_stamp(rt, table, "NTP", &ntp, (3_692_217_600, 2_147_483_648))?;
+    print_stamp(rt, table, "GPS", &gps, (906, 18_000))
+}
+
 // A stamp, the count that it is read as, and the stamp that this count is shown as.
-fn print_stamp<F: Form, R: Rung>(rt: &LibcRuntime, table: &LeapTable, name: &str, scale: &Scale<F, R>, stamp: (u64, u64)) -> Result<(), AnyError> {
+fn print_stamp<F: Form, R: Rung>(
+    rt: &LibcRuntime,
+    table: &LeapTable,
+    name: &str,
+    scale: &Scale<F, R>,
+    stamp: (u64, u64),
+) -> Result<(), AnyError> {
     let (hi, lo) = stamp;
     print!(rt, "{name:<5} {hi:>11} {lo:>11}  ")?;
     let tick = match scale.read_stamp(table, stamp) {
@@ -65,16 +93,32 @@ fn print_stamp<F: Form, R: Rung>(rt: &LibcRuntime, table: &LeapTable, name: &str
 }
 
 fn print_pile(rt: &LibcRuntime, table: &LeapTable) -> Result<(), AnyError> {
-    let pile = Pile { upper: Coarse::new(1_000), lower: Pile { upper: Offset::new(UTC_BEHIND), lower: Tai } };
+    let pile = Pile {
+        upper: Coarse::new(1_000),
+        lower: Pile {
+            upper: Offset::new(UTC_BEHIND),
+            lower: Tai,
+        },
+    };
     let rungs = pile.rungs();
     let loss = pile.loss();
-    println!(rt)?;
-    println!(rt, "A pile of {rungs} rungs with loss {loss}: steps of 1,000 over an offset of 37 seconds over TAI")?;
-    for count in [1_483_228_800_000_000_000, 1_483_228_800_000_000_001, 7_999_999_970_000_000_000] {
+    println!(
+        rt,
+        "A pile of {rungs} rungs with loss {loss}: steps of 1,000 over an offset of 37 seconds over TAI"
+    )?;
+    for count in [
+        1_483_228_800_000_000_000,
+        1_483_228_800_000_000_001,
+        7_999_999_970_000_000_000,
+    ] {
         print!(rt, "reads {count:>19}: ")?;
         print_answer(rt, pile.read(table, count))?;
     }
-    for count in [1_483_228_837_000_000_999, 36_999_999_999, 8_000_000_000_000_000_000] {
+    for count in [
+        1_483_228_837_000_000_999,
+        36_999_999_999,
+        8_000_000_000_000_000_000,
+    ] {
         print!(rt, "shows {count:>19}: ")?;
         print_answer(rt, pile.show(table, count))?;
     }
@@ -95,6 +139,9 @@ fn print_fault(rt: &LibcRuntime, fault: Fault) -> Result<(), AnyError> {
     let rung = fault.rung;
     let way = fault.way;
     let count = fault.count;
-    println!(rt, "refused {number} by rung {rung}, {way} {count}: {cause}")?;
+    println!(
+        rt,
+        "refused {number} by rung {rung}, {way} {count}: {cause}"
+    )?;
     Ok(())
 }

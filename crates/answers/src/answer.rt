@@ -61,7 +61,10 @@ fn write_done(out: &mut Vec<u8>, kind: u8, result: Result<(), Refusal>) -> Resul
     }
 }
 
-fn write_handed(out: &mut Vec<u8>, result: Result<Handed<LicenceEvent>, Refusal>) -> Result<(), AllocError>
+fn write_handed(
+    out: &mut Vec<u8>,
+    result: Result<Handed<LicenceEvent>, Refusal>,
+) -> Result<(), AllocError>
     ensures { λ r. ⌜ made r (λ _. vec-items (now (out .exit)) ≡ vec-items (now (out .entry)) ++ hexed (3 ∷ handed-bytes result)) ⌝ }
 {
     match result {

@@ -10,9 +10,15 @@ use refusals::refusal::RefusalPartialEq;
 #[derive(Clone, Copy, PartialEq, Eq, Debug)]
 pub enum Call<T> {
     // a record of this feed: its stamp, as the feed's clock writes it, and its body
-    Put { feed: u8, stamp: (u64, u64), body: T },
+    Put {
+        feed: u8,
+        stamp: (u64, u64),
+        body: T,
+    },
     // no more records of this feed
-    Close { feed: u8 },
+    Close {
+        feed: u8,
+    },
     // the record that has waited longest
     Take,
     // news of the leap table

@@ -9,10 +9,34 @@ use std::test::*;
 
 // NTP seconds, that is seconds since 1900-01-01, and TAI minus UTC from then on.
 const PUBLISHED: [(u64, u16); 28] = [
-    (2272060800, 10), (2287785600, 11), (2303683200, 12), (2335219200, 13), (2366755200, 14), (2398291200, 15), (2429913600, 16),
-    (2461449600, 17), (2492985600, 18), (2524521600, 19), (2571782400, 20), (2603318400, 21), (2634854400, 22), (2698012800, 23),
-    (2776982400, 24), (2840140800, 25), (2871676800, 26), (2918937600, 27), (2950473600, 28), (2982009600, 29), (3029443200, 30),
-    (3076704000, 31), (3124137600, 32), (3345062400, 33), (3439756800, 34), (3550089600, 35), (3644697600, 36), (3692217600, 37),
+    (2272060800, 10),
+    (2287785600, 11),
+    (2303683200, 12),
+    (2335219200, 13),
+    (2366755200, 14),
+    (2398291200, 15),
+    (2429913600, 16),
+    (2461449600, 17),
+    (2492985600, 18),
+    (2524521600, 19),
+    (2571782400, 20),
+    (2603318400, 21),
+    (2634854400, 22),
+    (2698012800, 23),
+    (2776982400, 24),
+    (2840140800, 25),
+    (2871676800, 26),
+    (2918937600, 27),
+    (2950473600, 28),
+    (2982009600, 29),
+    (3029443200, 30),
+    (3076704000, 31),
+    (3124137600, 32),
+    (3345062400, 33),
+    (3439756800, 34),
+    (3550089600, 35),
+    (3644697600, 36),
+    (3692217600, 37),
 ];
 
 // The days from 1900-01-01 to 1970-01-01.
@@ -42,7 +66,10 @@ fn each_step_is_an_inserted_second() -> Result<(), Fail> {
     for (seconds, offset) in PUBLISHED.iter().skip(1) {
         let day = day_of(*seconds);
         check_eq(table.offset_on(day), *offset)?;
-        check_eq(table.offset_on(day.saturating_sub(1)), offset.saturating_sub(1))?;
+        check_eq(
+            table.offset_on(day.saturating_sub(1)),
+            offset.saturating_sub(1),
+        )?;
         check_eq(table.day_length(day.saturating_sub(1)), 86_401)?;
         check_eq(table.day_length(day), 86_400)?;
     }
@@ -52,7 +79,11 @@ fn each_step_is_an_inserted_second() -> Result<(), Fail> {
 }
 
 fn bulletin(change: u8, day: u32, expiry: u32) -> Bulletin {
-    Bulletin { change, day, expiry }
+    Bulletin {
+        change,
+        day,
+        expiry,
+    }
 }
 
 // Seconds inserted at the end of 2024 and deleted at the end of 2025.
@@ -74,8 +105,12 @@ fn bulletins_renew_the_table() -> Result<(), Fail> {
 fn refused_bulletins_alter_nothing() -> Result<(), Fail> {
     let mut table = LeapTable::starting();
     let refused = [
-        (bulletin(3, 20_001, 0), Refusal::BadChange), (bulletin(0, 1, 0), Refusal::BadChange), (bulletin(0, 0, 19_999), Refusal::BadExpiry),
-        (bulletin(1, 1, 84_007), Refusal::BadExpiry), (bulletin(1, 20_000, 20_270), Refusal::BadDay), (bulletin(1, 20_090, 20_270), Refusal::BadDay),
+        (bulletin(3, 20_001, 0), Refusal::BadChange),
+        (bulletin(0, 1, 0), Refusal::BadChange),
+        (bulletin(0, 0, 19_999), Refusal::BadExpiry),
+        (bulletin(1, 1, 84_007), Refusal::BadExpiry),
+        (bulletin(1, 20_000, 20_270), Refusal::BadDay),
+        (bulletin(1, 20_090, 20_270), Refusal::BadDay),
         (bulletin(2, 20_089, 20_089), Refusal::BadDay),
     ];
     for (news, cause) in refused {
@@ -101,7 +136,10 @@ fn an_offset_cannot_fall_below_zero() -> Result<(), Fail> {
     let Some(mut table) = LeapTable::from_parts(&entries, 1040) else {
         return Err(Fail::new("not sound"));
     };
-    check_eq(table.renew(bulletin(2, 1096, 1100)), Err(Refusal::TableLimit))?;
+    check_eq(
+        table.renew(bulletin(2, 1096, 1100)),
+        Err(Refusal::TableLimit),
+    )?;
     table.renew(bulletin(1, 1096, 1100))?;
     check_eq(table.offset_on(1096), 1)
 }

@@ -44,7 +44,35 @@ fn parse_kind(kind: u8, rest: &[u8]) -> Option<Call<LicenceEvent>>
     ensures { λ r. ⌜ r ≡ call-of kind (now (rest .entry)) ⌝ }
 {
     match (kind, rest) {
-        (0x01, [feed, h0, h1, h2, h3, h4, h5, h6, h7, l0, l1, l2, l3, l4, l5, l6, l7, a, s0, s1, s2, s3, t0, t1]) => {
+        (
+            0x01,
+            [
+                feed,
+                h0,
+                h1,
+                h2,
+                h3,
+                h4,
+                h5,
+                h6,
+                h7,
+                l0,
+                l1,
+                l2,
+                l3,
+                l4,
+                l5,
+                l6,
+                l7,
+                a,
+                s0,
+                s1,
+                s2,
+                s3,
+                t0,
+                t1,
+            ],
+        ) => {
             let Some(action) = Action::from_code(*a) else {
                 return None;
             };
@@ -53,14 +81,22 @@ fn parse_kind(kind: u8, rest: &[u8]) -> Option<Call<LicenceEvent>>
             let seat = u32::from_be_bytes([*s0, *s1, *s2, *s3]);
             let tool = u16::from_be_bytes([*t0, *t1]);
             let event = LicenceEvent { action, seat, tool };
-            Some(Call::Put { feed: *feed, stamp: (hi, lo), body: event })
+            Some(Call::Put {
+                feed: *feed,
+                stamp: (hi, lo),
+                body: event,
+            })
         }
         (0x02, [feed]) => Some(Call::Close { feed: *feed }),
         (0x03, []) => Some(Call::Take),
         (0x04, [change, d0, d1, d2, d3, x0, x1, x2, x3]) => {
             let day = u32::from_be_bytes([*d0, *d1, *d2, *d3]);
             let expiry = u32::from_be_bytes([*x0, *x1, *x2, *x3]);
-            Some(Call::Renew(Bulletin { change: *change, day, expiry }))
+            Some(Call::Renew(Bulletin {
+                change: *change,
+                day,
+                expiry,
+            }))
         }
         _ => None,
     }

@@ -76,7 +76,7 @@ module _ {T : Type 0} (s : State) (slots : List T) (f : ℕ) (first : Some f ≡
       let tick : t ≡ held (feed-state s f) = e ∙ ap held (sym (there .1)) in
       subst (λ (z : Bool). take-if-short s slots z r) (sym (le-ltb (length slots) (length (s .feeds)) room))
       (subst (λ (z : List ℕ). take-at s slots z r) (sym (head-first (s .queue) f first))
-        (x, nth-getD slots f x (let i = there .0 in omega arith) ∙ ap Some (sym b), λ i. Ok (record { feed = f; tick = tick i; body = x })))
+      (x, nth-getD slots f x (let i = there .0 in omega arith) ∙ ap Some (sym b), λ i. Ok (record { feed = f; tick = tick i; body = x })))
 
   pub take-state : (feeds : List FeedState) (queue : List ℕ) (t : ℕ) (x : T) → feeds ≡ set (s .feeds) f (released v) → queue ≡ rest (s .queue) →
       _≡_ {A = State} (record { table = s .table; feeds = feeds; queue = queue; last = s .last }) (after-take s (Ok (record { feed = f; tick = t; body = x })))

@@ -18,8 +18,16 @@ impl Feeds {
         requires { ⌜ count ≤ 64 ⌝ }
         ensures { λ r. ⌜ feedsOf r ≡ replicate count Idle ⌝ }
     {
-        let idle = if count < 64 { (1 << count) - 1 } else { u64::MAX };
-        Feeds { states: [FeedState::Idle; 64], count, idle }
+        let idle = if count < 64 {
+            (1 << count) - 1
+        } else {
+            u64::MAX
+        };
+        Feeds {
+            states: [FeedState::Idle; 64],
+            count,
+            idle,
+        }
     }
 
     pub(crate) fn count(&self) -> usize
@@ -45,7 +53,10 @@ impl Feeds {
     {
         *self = match state {
             FeedState::Idle => self.freed(feed, state),
-            FeedState::Holding(_) | FeedState::Closing(_) | FeedState::Closed => self.busied(feed, state),
+            FeedState::Holding(_) | FeedState::Closing(_) | FeedState::Closed => self.busied(
+                feed,
+                state,
+            ),
         };
     }
 
@@ -57,7 +68,11 @@ impl Feeds {
     {
         let mut states = self.states;
         states[feed as usize] = state;
-        Feeds { states, count: self.count, idle: self.idle | (1 << feed) }
+        Feeds {
+            states,
+            count: self.count,
+            idle: self.idle | (1 << feed),
+        }
     }
 
     // With a feed set to a state that is not idle.
@@ -68,7 +83,11 @@ impl Feeds {
     {
         let mut states = self.states;
         states[feed as usize] = state;
-        Feeds { states, count: self.count, idle: self.idle & !(1 << feed) }
+        Feeds {
+            states,
+            count: self.count,
+            idle: self.idle & !(1 << feed),
+        }
     }
 
     // How many feeds are idle, and one of them, if any is.
@@ -78,6 +97,9 @@ impl Feeds {
         if self.idle == 0 {
             return None;
         }
-        Some((self.idle.count_ones() as u8, self.idle.trailing_zeros() as u8))
+        Some((
+            self.idle.count_ones() as u8,
+            self.idle.trailing_zeros() as u8,
+        ))
     }
 }

@@ -1,8 +1,8 @@
 // The joiner: it keeps the records of up to 64 feeds in one order.
-mod feeds;
 pub mod bulletin;
 pub mod call;
 pub mod close;
+mod feeds;
 pub mod joiner;
 pub mod make;
 mod moves;

@@ -56,6 +56,12 @@ impl<B: Bank> Joiner<B> {
         ensures promise { λ r. ⌜ Keeps-order (meaning bank) starting (now (now (shelf .entry) .slots)) ⌝ }
     {
         let count = admit(bank.feeds(), shelf.len());
-        Joiner { bank, table: LeapTable::starting(), feeds: Feeds::all_idle(count), queue: Queue::new(), last: 0 }
+        Joiner {
+            bank,
+            table: LeapTable::starting(),
+            feeds: Feeds::all_idle(count),
+            queue: Queue::new(),
+            last: 0,
+        }
     }
 }

@@ -26,7 +26,9 @@ pub(crate) fn change(state: &mut FeedState, by: Move) -> Result<(), Refusal>
         (FeedState::Holding(_), Move::Put(_)) => return Err(Refusal::FeedHolding),
         (FeedState::Idle, Move::Close) => *state = FeedState::Closed,
         (FeedState::Holding(tick), Move::Close) => *state = FeedState::Closing(*tick),
-        (FeedState::Closing(_) | FeedState::Closed, Move::Put(_) | Move::Close) => return Err(Refusal::FeedClosed),
+        (FeedState::Closing(_) | FeedState::Closed, Move::Put(_) | Move::Close) => return Err(
+            Refusal::FeedClosed,
+        ),
         (FeedState::Holding(_), Move::Take) => *state = FeedState::Idle,
         (FeedState::Closing(_), Move::Take) => *state = FeedState::Closed,
         (FeedState::Idle | FeedState::Closed, Move::Take) => {}

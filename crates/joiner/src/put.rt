@@ -32,7 +32,13 @@ impl<B: Bank> Joiner<B> {
     }
 
     // Accepts a record of a feed, its stamp and body, and answers its tick.
-    pub fn put<T: Copy>(&mut self, shelf: &mut Shelf<'_, T>, feed: u8, stamp: (u64, u64), body: T) -> Result<u64, Refusal>
+    pub fn put<T: Copy>(
+        &mut self,
+        shelf: &mut Shelf<'_, T>,
+        feed: u8,
+        stamp: (u64, u64),
+        body: T,
+    ) -> Result<u64, Refusal>
         ensures answer { λ r. ⌜ told r ≡ put-answer (meaning (now (self .entry) .bank)) (stateOf (now (self .entry))) (length (now (now (shelf .entry) .slots))) feed stamp ⌝ }
         ensures desk { λ r. ⌜ deskOf (now (self .exit)) (now (now (shelf .exit) .slots)) ≡ after-put (deskOf (now (self .entry)) (now (now (shelf .entry) .slots))) feed body (told r) ⌝ }
         ensures kept { λ r. ⌜ now (self .exit) .bank ≡ now (self .entry) .bank ⌝ }

@@ -11,7 +11,11 @@ impl Queue {
     pub(crate) fn new() -> Queue
         ensures { λ r. ⌜ queueOf r ≡ [] ⌝ }
     {
-        Queue { ring: [0; 64], head: 0, len: 0 }
+        Queue {
+            ring: [0; 64],
+            head: 0,
+            len: 0,
+        }
     }
 
     // The feed that has waited longest.

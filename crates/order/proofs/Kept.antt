@@ -85,22 +85,22 @@ module _ {T : Type 0} where
 
   -- a call that accepts nothing and gives nothing, and leaves the queue and what waits
   pub quiet : {m : BankMeaning} {vs : List (Event T)} {d : Desk T} (v : Event T) (e : Desk T) → Kept m vs d → accepted-by v ≡ [] → given-by v ≡ [] →
-    e .joiner .queue ≡ d .joiner .queue → ((f : ℕ) → waiting e f ≡ waiting d f) → e .joiner .last ≡ d .joiner .last →
-    ((r : Record T) → Good m (d .joiner) r → Good m (e .joiner) r) → Sound (e .joiner .table) →
-    length (e .joiner .feeds) ≤ length (e .slots) → Kept m (vs ++ v ∷ []) e
+      e .joiner .queue ≡ d .joiner .queue → ((f : ℕ) → waiting e f ≡ waiting d f) → e .joiner .last ≡ d .joiner .last →
+      ((r : Record T) → Good m (d .joiner) r → Good m (e .joiner) r) → Sound (e .joiner .table) →
+      length (e .joiner .feeds) ≤ length (e .slots) → Kept m (vs ++ v ∷ []) e
   quiet {m} {vs} {d} v e k a g same-queue same-wait same-last same-good sound room = record {
-      gone = k .gone;
-      left = k .left;
-      split = accepted-none vs v a ∙ k .split;
-      gave = given-none vs v g ∙ k .gave;
-      queue = same-queue ∙ k .queue;
-      wait = λ f. k .wait f ∙ sym (same-wait f);
-      rise = k .rise;
-      past = all-weaker (λ r. tick-of r ≤ d .joiner .last) (λ r. tick-of r ≤ e .joiner .last) (λ r h. let h′ : tick-of r ≤ d .joiner .last = h in omega arith) (k .gone ++ k .left) (k .past);
-      good = all-weaker (Good m (d .joiner)) (Good m (e .joiner)) same-good (k .gone ++ k .left) (k .good);
-      sound = sound;
-      room = room;
-    }
+    gone = k .gone;
+    left = k .left;
+    split = accepted-none vs v a ∙ k .split;
+    gave = given-none vs v g ∙ k .gave;
+    queue = same-queue ∙ k .queue;
+    wait = λ f. k .wait f ∙ sym (same-wait f);
+    rise = k .rise;
+    past = all-weaker (λ r. tick-of r ≤ d .joiner .last) (λ r. tick-of r ≤ e .joiner .last) (λ r h. let h′ : tick-of r ≤ d .joiner .last = h in omega arith) (k .gone ++ k .left) (k .past);
+    good = all-weaker (Good m (d .joiner)) (Good m (e .joiner)) same-good (k .gone ++ k .left) (k .good);
+    sound = sound;
+    room = room;
+  }
 
   -- and one that changes nothing at all
   pub refused : {m : BankMeaning} {vs : List (Event T)} {d : Desk T} (v : Event T) → Kept m vs d → accepted-by v ≡ [] → given-by v ≡ [] → Kept m (vs ++ v ∷ []) d
@@ -108,13 +108,12 @@ module _ {T : Type 0} where
 
   -- a write to a feed's state that another feed does not see
   waiting-other : (d : Desk T) (s : State) (slots : List T) (f h : ℕ) (v : FeedState) (x : T) → (h ≡ f → ⊥) → s .feeds ≡ set (d .joiner .feeds) f v → slots ≡ set (d .slots) f x →
-    waiting (record { joiner = s; slots = slots }) h ≡ waiting d h
+      waiting (record { joiner = s; slots = slots }) h ≡ waiting d h
   waiting-other d s slots f h v x ne e e′ =
       ap (λ z. waiting-in (getD z h Closed) (nth slots h)) e ∙ ap (λ z. waiting-in z (nth slots h)) (getD-set-other (d .joiner .feeds) f h v Closed ne)
       ∙ ap (λ z. waiting-in (feed-state (d .joiner) h) (nth z h)) e′ ∙ ap (λ z. waiting-in (feed-state (d .joiner) h) z) (nth-set-other (d .slots) f h x ne)
 
 module _ {T : Type 0} (m : BankMeaning) (vs : List (Event T)) (d : Desk T) (k : Kept m vs d) where
-
   -- ---- put
   module _ (f : ℕ) (p : Stamp) (x : T) (t : ℕ) (ok : Puts m (d .joiner) (length (d .slots)) f p t) where
     abbrev new : Record T
@@ -128,7 +127,7 @@ module _ {T : Type 0} (m : BankMeaning) (vs : List (Event T)) (d : Desk T) (k : 
         ap (λ z. waiting-in z (nth (d .slots) f) ++ map pair (of-feed f (new ∷ []))) (ok .idle)
         ∙ ap (λ b. map pair (cond b (new ∷ []) [])) (eq-eqb f f refl)
         ∙ sym (ap (λ z. waiting-in z (nth (set (d .slots) f x) f)) (getD-set-same (d .joiner .feeds) f (Holding t) Closed (ok .inside))
-            ∙ ap (slot t) (nth-set-same (d .slots) f x (let i = ok .inside in let r = ok .room in omega arith)))
+        ∙ ap (slot t) (nth-set-same (d .slots) f x (let i = ok .inside in let r = ok .room in omega arith)))
 
     put-wait : (h : ℕ) → map pair (of-feed h (k .left ++ new ∷ [])) ≡ waiting (after-put d f x (Ok t)) h
     put-wait h =
@@ -152,18 +151,18 @@ module _ {T : Type 0} (m : BankMeaning) (vs : List (Event T)) (d : Desk T) (k : 
 
     put-kept : Kept m (vs ++ Put f p x (Ok t) ∷ []) (after-put d f x (Ok t))
     put-kept = record {
-        gone = k .gone;
-        left = k .left ++ new ∷ [];
-        split = accepted-push vs (Put f p x (Ok t)) ∙ ap (λ z. z ++ new ∷ []) (k .split) ∙ append-assoc (k .gone) (k .left) (new ∷ []);
-        gave = given-none vs (Put f p x (Ok t)) refl ∙ k .gave;
-        queue = ap (λ z. z ++ f ∷ []) (k .queue) ∙ sym (map-++ feed-of (k .left) (new ∷ []));
-        wait = put-wait;
-        rise = subst (Climbs tick-of) (append-assoc (k .gone) (k .left) (new ∷ [])) (climbs-push tick-of (k .gone ++ k .left) new (k .rise) put-past);
-        past = put-all (λ r. tick-of r ≤ t) put-past (omega arith);
-        good = put-all (Good m put-state) put-good (let i = ok .inside in omega (arith, length-set (d .joiner .feeds) f (Holding t)), ok .ours, ok .reads);
-        sound = k .sound;
-        room = let r = k .room in omega (arith, length-set (d .joiner .feeds) f (Holding t), length-set (d .slots) f x);
-      }
+      gone = k .gone;
+      left = k .left ++ new ∷ [];
+      split = accepted-push vs (Put f p x (Ok t)) ∙ ap (λ z. z ++ new ∷ []) (k .split) ∙ append-assoc (k .gone) (k .left) (new ∷ []);
+      gave = given-none vs (Put f p x (Ok t)) refl ∙ k .gave;
+      queue = ap (λ z. z ++ f ∷ []) (k .queue) ∙ sym (map-++ feed-of (k .left) (new ∷ []));
+      wait = put-wait;
+      rise = subst (Climbs tick-of) (append-assoc (k .gone) (k .left) (new ∷ [])) (climbs-push tick-of (k .gone ++ k .left) new (k .rise) put-past);
+      past = put-all (λ r. tick-of r ≤ t) put-past (omega arith);
+      good = put-all (Good m put-state) put-good (let i = ok .inside in omega (arith, length-set (d .joiner .feeds) f (Holding t)), ok .ours, ok .reads);
+      sound = k .sound;
+      room = let r = k .room in omega (arith, length-set (d .joiner .feeds) f (Holding t), length-set (d .slots) f x);
+    }
 
   put-keeps : (f : ℕ) (p : Stamp) (x : T) (r : Result ℕ Said) (e : Desk T) → r ≡ put-answer m (d .joiner) (length (d .slots)) f p → e ≡ after-put d f x r → Kept m (vs ++ Put f p x r ∷ []) e
   put-keeps f p x (Ok t) e a b = subst (Kept m (vs ++ Put f p x (Ok t) ∷ [])) (sym b) (put-kept f p x t (put-ok m (d .joiner) (length (d .slots)) f p t a))
@@ -181,6 +180,7 @@ module _ {T : Type 0} (m : BankMeaning) (vs : List (Event T)) (d : Desk T) (k : 
         at-f =
             ap (λ z. waiting-in z (nth (d .slots) f)) (getD-set-same (d .joiner .feeds) f v Closed (close-ok (d .joiner) f v plan .0))
             ∙ close-same (feed-state (d .joiner) f) v (nth (d .slots) f) (close-ok (d .joiner) f v plan .1)
+
         go : (h ≡ f) ⊎ (h ≡ f → ⊥) → waiting closed h ≡ waiting d h
         go (inl e) = subst (λ z. waiting closed z ≡ waiting d z) (sym e) at-f
         go (inr ne) = ap (λ z. waiting-in z (nth (d .slots) h)) (getD-set-other (d .joiner .feeds) f h v Closed ne)
@@ -202,7 +202,7 @@ module _ {T : Type 0} (m : BankMeaning) (vs : List (Event T)) (d : Desk T) (k : 
   renew-keeps law b r e s =
       subst (Kept m (vs ++ Renew b r ∷ [])) (sym s)
       (quiet (Renew b r) (record { joiner = renewed-by (d .joiner) b; slots = d .slots }) k refl refl refl (λ f. refl) refl
-        (renew-good law b) (after-sound (d .joiner .table) b (k .sound) (judged (d .joiner .table) b) refl) (k .room))
+      (renew-good law b) (after-sound (d .joiner .table) b (k .sound) (judged (d .joiner .table) b) refl) (k .room))
 
   -- ---- take
   -- the head of the queue is the first of those left, and it is what take gives
@@ -237,24 +237,27 @@ module _ {T : Type 0} (m : BankMeaning) (vs : List (Event T)) (d : Desk T) (k : 
   pub first-of : (g : Handed T) (ok : Takes (d .joiner) (d .slots) g) (left : List (Record T)) → k .left ≡ left → First m vs d k g
   first-of g ok [] e = absurd (cons≢nil (sym (ok .first) ∙ k .queue ∙ ap (map feed-of) e))
   first-of g ok (r ∷ rs) e = record {
-      head = r;
-      tail = rs;
-      is = e;
-      same = λ i. record { feed = same-feed i; tick = (ap (λ z. z .0) (w .1) ∙ sym (ok .tick)) i; body = (ap (λ z. z .1) (w .1)) i };
-      none = w .2;
-      inside = in-range (d .joiner .feeds) (g .feed) (w .0);
-      after = ap rest (ok .first) ∙ tail-same heads;
-    }
+    head = r;
+    tail = rs;
+    is = e;
+    same = λ i. record { feed = same-feed i; tick = (ap (λ z. z .0) (w .1) ∙ sym (ok .tick)) i; body = (ap (λ z. z .1) (w .1)) i };
+    none = w .2;
+    inside = in-range (d .joiner .feeds) (g .feed) (w .0);
+    after = ap rest (ok .first) ∙ tail-same heads;
+  }
     where
       heads : g .feed ∷ ok .after ≡ r .feed ∷ map feed-of rs
       heads = sym (ok .first) ∙ k .queue ∙ ap (map feed-of) e
+
       same-feed : r .feed ≡ g .feed
       same-feed = sym (head-same heads)
+
       waits : pair r ∷ map pair (of-feed (g .feed) rs) ≡ waiting-in (feed-state (d .joiner) (g .feed)) (Some (g .body))
       waits =
           sym (ap (λ b. map pair (cond b (r ∷ of-feed (g .feed) rs) (of-feed (g .feed) rs))) (eq-eqb (r .feed) (g .feed) same-feed))
           ∙ sym (ap (λ z. map pair (of-feed (g .feed) z)) e) ∙ k .wait (g .feed)
           ∙ ap (λ z. waiting-in (feed-state (d .joiner) (g .feed)) z) (ok .body)
+
       w : Waits (feed-state (d .joiner) (g .feed)) × (pair r ≡ (held (feed-state (d .joiner) (g .feed)), g .body)) × (map pair (of-feed (g .feed) rs) ≡ [])
       w = one-waits (feed-state (d .joiner) (g .feed)) (g .body) (pair r) (map pair (of-feed (g .feed) rs)) waits
 
@@ -272,6 +275,7 @@ module _ {T : Type 0} (m : BankMeaning) (vs : List (Event T)) (d : Desk T) (k : 
         at-f =
             o .none ∙ sym (released-none (feed-state (d .joiner) (g .feed)) (nth (d .slots) (g .feed)))
             ∙ sym (ap (λ z. waiting-in z (nth (d .slots) (g .feed))) (getD-set-same (d .joiner .feeds) (g .feed) (released (feed-state (d .joiner) (g .feed))) Closed (o .inside)))
+
         go : (h ≡ g .feed) ⊎ (h ≡ g .feed → ⊥) → map pair (of-feed h (o .tail)) ≡ waiting taken h
         go (inl e) = subst (λ z. map pair (of-feed z (o .tail)) ≡ waiting taken z) (sym e) at-f
         go (inr ne) =
@@ -287,18 +291,18 @@ module _ {T : Type 0} (m : BankMeaning) (vs : List (Event T)) (d : Desk T) (k : 
 
     take-kept : Kept m (vs ++ Take (Ok g) ∷ []) taken
     take-kept = record {
-        gone = k .gone ++ o .head ∷ [];
-        left = o .tail;
-        split = accepted-none vs (Take (Ok g)) refl ∙ k .split ∙ take-split;
-        gave = given-push vs (Take (Ok g)) ∙ ap (λ z. z ++ g ∷ []) (k .gave) ∙ ap (λ z. map handed (k .gone) ++ z ∷ []) (sym (o .same)) ∙ sym (map-++ handed (k .gone) (o .head ∷ []));
-        queue = o .after;
-        wait = take-wait;
-        rise = subst (Climbs tick-of) take-split (k .rise);
-        past = subst (All (λ r. tick-of r ≤ d .joiner .last)) take-split (k .past);
-        good = subst (All (Good m (taken .joiner))) take-split take-good;
-        sound = k .sound;
-        room = let z = k .room in omega (arith, same-size);
-      }
+      gone = k .gone ++ o .head ∷ [];
+      left = o .tail;
+      split = accepted-none vs (Take (Ok g)) refl ∙ k .split ∙ take-split;
+      gave = given-push vs (Take (Ok g)) ∙ ap (λ z. z ++ g ∷ []) (k .gave) ∙ ap (λ z. map handed (k .gone) ++ z ∷ []) (sym (o .same)) ∙ sym (map-++ handed (k .gone) (o .head ∷ []));
+      queue = o .after;
+      wait = take-wait;
+      rise = subst (Climbs tick-of) take-split (k .rise);
+      past = subst (All (λ r. tick-of r ≤ d .joiner .last)) take-split (k .past);
+      good = subst (All (Good m (taken .joiner))) take-split take-good;
+      sound = k .sound;
+      room = let z = k .room in omega (arith, same-size);
+    }
 
   take-keeps : (r : Result (Handed T) Said) (e : Desk T) → Take-answer (d .joiner) (d .slots) r → e ≡ record { joiner = after-take (d .joiner) r; slots = d .slots } → Kept m (vs ++ Take r ∷ []) e
   take-keeps (Ok g) e a b = subst (Kept m (vs ++ Take (Ok g) ∷ [])) (sym b) (take-kept g (first-of g (take-ok (d .joiner) (d .slots) g a) (k .left) refl))

@@ -27,6 +27,7 @@ size-cut n k = go (cases-lt n 65)
   where
     big : (z : ℕ) → 64 < z → size-answer z k ≡ Err (plain 2)
     big z h = ap (λ b. cond (ltb z 1 || b) (Err (plain 2)) (cond (ltb k z) (Err (plain 3)) (Ok tt))) (lt-ltb 64 z h) ∙ ap (λ b. cond b (Err (plain 2)) (cond (ltb k z) (Err (plain 3)) (Ok tt))) (or-right (ltb z 1) true refl)
+
     go : (n < 65) ⊎ (65 ≤ n) → size-answer (min 65 n) k ≡ size-answer n k
     go (inl h) = ap (λ z. size-answer z k) (let e : min 65 n ≡ n = omega arith in e)
     go (inr h) = big (min 65 n) (omega arith) ∙ sym (big n h)
@@ -36,6 +37,7 @@ admits-cut n k = go (cases-lt n 65)
   where
     big : (z : ℕ) → 64 < z → admits z k ≡ 0
     big z h = ap (λ b. admitted z (cond (ltb z 1 || b) (Err (plain 2)) (cond (ltb k z) (Err (plain 3)) (Ok tt)))) (lt-ltb 64 z h) ∙ ap (λ b. admitted z (cond b (Err (plain 2)) (cond (ltb k z) (Err (plain 3)) (Ok tt)))) (or-right (ltb z 1) true refl)
+
     go : (n < 65) ⊎ (65 ≤ n) → admits (min 65 n) k ≡ admits n k
     go (inl h) = ap (λ z. admits z k) (let e : min 65 n ≡ n = omega arith in e)
     go (inr h) = big (min 65 n) (omega arith) ∙ sym (big n h)

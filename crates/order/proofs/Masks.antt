@@ -31,8 +31,9 @@ first-passes {X} p (x ∷ xs) d h = go (p x) refl h (first-passes p xs d)
   where
     tail : ℕ
     tail = leading (λ x. not (p x)) xs
+
     go : (b : Bool) → p x ≡ b → 0 < cond b 1 0 + 2 * maskL (map p xs) → (0 < maskL (map p xs) → (tail < length xs) × (p (getD xs tail d) ≡ true)) →
-      (cond (not b) (1 + tail) 0 < suc (length xs)) × (p (getD (x ∷ xs) (cond (not b) (1 + tail) 0) d) ≡ true)
+        (cond (not b) (1 + tail) 0 < suc (length xs)) × (p (getD (x ∷ xs) (cond (not b) (1 + tail) 0) d) ≡ true)
     go true e k r = (omega arith, e)
     go false e k r = let s = r (omega arith) in (omega (arith, s .0), ap (λ z. p (getD (x ∷ xs) z d)) (let o : 1 + tail ≡ suc tail = omega arith in o) ∙ s .1)
 
@@ -95,7 +96,7 @@ mask-off (b ∷ bs) zero (suc k) h l =
     let p : 2 ^ suc k - 1 - 1 ≡ 0 + 2 * (2 ^ k - 1) = omega (arith, pow-suc 2 k, pow-pos k) in
     let none : min (cond b 1 0) 0 ≡ 0 = omega arith in
     sym (ap (λ (x : ℕ). bitAnd (cond b 1 0 + 2 * maskL bs) x) p ∙ and-at (cond b 1 0) 0 (maskL bs) (2 ^ k - 1) s (omega arith)
-      ∙ ap₂ (λ (x y : ℕ). x + 2 * y) none (and-mask (maskL bs) k ∙ maskL-mod bs k (omega arith)))
+    ∙ ap₂ (λ (x y : ℕ). x + 2 * y) none (and-mask (maskL bs) k ∙ maskL-mod bs k (omega arith)))
 mask-off (b ∷ bs) (suc i) (suc k) h l =
     let s = small-bit b in
     let inside : i < k = omega arith in

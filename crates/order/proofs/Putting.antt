@@ -24,7 +24,7 @@ use Rattle.order.proofs.Shutting.{getD-any, row-state}
 
 module _ (table : Table) (feeds : List FeedState) (count : ℕ) (queue : List ℕ) (waiting : ℕ) (last : ℕ) where
   pub put-planned : (m : BankMeaning) (k f : ℕ) (p : Stamp) (v : FeedState) → count ≤ k → f < count → f < length feeds → getD feeds f Idle ≡ v →
-    put-answer m (row-state table feeds count (take waiting queue) last) k f p ≡ put-at m (row-state table feeds count (take waiting queue) last) f p v
+      put-answer m (row-state table feeds count (take waiting queue) last) k f p ≡ put-at m (row-state table feeds count (take waiting queue) last) f p v
   put-planned m k f p v room h l e =
       let s = row-state table feeds count (take waiting queue) last in
       let n : length (take count feeds) ≤ count = let t = length-take count feeds in omega arith in
@@ -33,8 +33,8 @@ module _ (table : Table) (feeds : List FeedState) (count : ℕ) (queue : List �
       ∙ ap (put-at m s f p) (getD-take count feeds f Closed h ∙ getD-any feeds f Closed Idle l ∙ e)
 
   pub put-written : {T : Type 0} (slots : List T) (f : ℕ) (x : T) (t : ℕ) → f < count → waiting < length queue →
-    _≡_ {A = Desk T} (record { joiner = record { table = table; feeds = take count (set feeds f (Holding t)); queue = take (waiting + 1) (set queue waiting f); last = t }; slots = set slots f x })
-    (after-put (record { joiner = row-state table feeds count (take waiting queue) last; slots = slots }) f x (Ok t))
+      _≡_ {A = Desk T} (record { joiner = record { table = table; feeds = take count (set feeds f (Holding t)); queue = take (waiting + 1) (set queue waiting f); last = t }; slots = set slots f x })
+      (after-put (record { joiner = row-state table feeds count (take waiting queue) last; slots = slots }) f x (Ok t))
   put-written {T} slots f x t h q =
       let e : take count (set feeds f (Holding t)) ≡ set (take count feeds) f (Holding t) = take-set-lt count feeds f (Holding t) h in
       let e′ : take (waiting + 1) (set queue waiting f) ≡ take waiting queue ++ f ∷ [] = ap (λ z. take z (set queue waiting f)) (add-one waiting) ∙ take-suc-set queue waiting f q in

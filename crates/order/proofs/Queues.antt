@@ -100,6 +100,7 @@ queued-more xs i v q l e k h f = kept-by-append (λ g. eqb g f) q (i ∷ []) ∙
     at-i =
         ap (λ b. cond b (i ∷ []) [] ++ cond (eqb i i) (i ∷ []) []) e ∙ ap (λ b. cond b (i ∷ []) []) (eq-eqb i i refl)
         ∙ ap (λ b. cond b (i ∷ []) []) (sym k) ∙ ap (λ z. cond (has-record z) (i ∷ []) []) (sym (getD-set-same xs i v Closed l))
+
     go : (f ≡ i) ⊎ (f ≡ i → ⊥) → cond (has-record (getD xs f Closed)) (f ∷ []) [] ++ cond (eqb i f) (i ∷ []) [] ≡ cond (has-record (getD (set xs i v) f Closed)) (f ∷ []) []
     go (inl s) = subst (λ z. cond (has-record (getD xs z Closed)) (z ∷ []) [] ++ cond (eqb i z) (i ∷ []) [] ≡ cond (has-record (getD (set xs i v) z Closed)) (z ∷ []) []) (sym s) at-i
     go (inr n) =
@@ -120,6 +121,7 @@ queued-less xs i v q l k h f = go (cases-eq f i)
   where
     at-i : kept-by (λ g. eqb g i) q ≡ cond (has-record (getD (set xs i v) i Closed)) (i ∷ []) []
     at-i = head-waits xs i q h .1 ∙ ap (λ b. cond b (i ∷ []) []) (sym k) ∙ ap (λ z. cond (has-record z) (i ∷ []) []) (sym (getD-set-same xs i v Closed l))
+
     go : (f ≡ i) ⊎ (f ≡ i → ⊥) → kept-by (λ g. eqb g f) q ≡ cond (has-record (getD (set xs i v) f Closed)) (f ∷ []) []
     go (inl s) = subst (λ z. kept-by (λ g. eqb g z) q ≡ cond (has-record (getD (set xs i v) z Closed)) (z ∷ []) []) (sym s) at-i
     go (inr n) =
@@ -138,19 +140,21 @@ module _ (count : ℕ) (feeds : List FeedState) (i : ℕ) (v : FeedState) (insid
   row-at = getD-take count feeds i Closed inside ∙ getD-any feeds i Closed Idle within
 
   pub row-kept : (w : ℕ) (q : List ℕ) → has-record v ≡ has-record (getD feeds i Idle) → Counted (take count feeds) w → Queued (take count feeds) q →
-    Counted (take count (set feeds i v)) w × Queued (take count (set feeds i v)) q
+      Counted (take count (set feeds i v)) w × Queued (take count (set feeds i v)) q
   row-kept w q e c h =
-      let e′ : has-record v ≡ has-record (getD (take count feeds) i Closed) = e ∙ ap has-record (sym row-at) in
-      (c ∙ sym (count-same has-record (take count feeds) i v Closed e′) ∙ ap (λ z. length (kept-by has-record z)) row-set,
-       subst (λ z. Queued z q) row-set (queued-same (take count feeds) i v q row-in e′ h))
+      let e′ : has-record v ≡ has-record (getD (take count feeds) i Closed) = e ∙ ap has-record (sym row-at) in (
+        c ∙ sym (count-same has-record (take count feeds) i v Closed e′) ∙ ap (λ z. length (kept-by has-record z)) row-set,
+        subst (λ z. Queued z q) row-set (queued-same (take count feeds) i v q row-in e′ h),
+      )
 
   pub row-more : (w : ℕ) (q : List ℕ) → has-record (getD feeds i Idle) ≡ false → has-record v ≡ true → Counted (take count feeds) w → Queued (take count feeds) q →
-    Counted (take count (set feeds i v)) (w + 1) × Queued (take count (set feeds i v)) (q ++ i ∷ [])
+      Counted (take count (set feeds i v)) (w + 1) × Queued (take count (set feeds i v)) (q ++ i ∷ [])
   row-more w q e k c h =
       let e′ : has-record (getD (take count feeds) i Closed) ≡ false = ap has-record row-at ∙ e in
-      let n : length (kept-by has-record (set (take count feeds) i v)) ≡ suc (length (kept-by has-record (take count feeds))) = count-more has-record (take count feeds) i v Closed row-in e′ k in
-      (let s : w + 1 ≡ length (kept-by has-record (set (take count feeds) i v)) = omega arith in s ∙ ap (λ z. length (kept-by has-record z)) row-set,
-       subst (λ z. Queued z (q ++ i ∷ [])) row-set (queued-more (take count feeds) i v q row-in e′ k h))
+      let n : length (kept-by has-record (set (take count feeds) i v)) ≡ suc (length (kept-by has-record (take count feeds))) = count-more has-record (take count feeds) i v Closed row-in e′ k in (
+        let s : w + 1 ≡ length (kept-by has-record (set (take count feeds) i v)) = omega arith in s ∙ ap (λ z. length (kept-by has-record z)) row-set,
+        subst (λ z. Queued z (q ++ i ∷ [])) row-set (queued-more (take count feeds) i v q row-in e′ k h),
+      )
 
   pub row-room : (w : ℕ) → has-record (getD feeds i Idle) ≡ false → Counted (take count feeds) w → w < count
   row-room w e c =
@@ -160,12 +164,13 @@ module _ (count : ℕ) (feeds : List FeedState) (i : ℕ) (v : FeedState) (insid
       omega arith
 
   pub row-less : (w : ℕ) (q : List ℕ) → has-record v ≡ false → Counted (take count feeds) w → Queued (take count feeds) (i ∷ q) →
-    Counted (take count (set feeds i v)) (w - 1) × Queued (take count (set feeds i v)) q
+      Counted (take count (set feeds i v)) (w - 1) × Queued (take count (set feeds i v)) q
   row-less w q k c h =
       let e′ : has-record (getD (take count feeds) i Closed) ≡ true = head-waits (take count feeds) i q h .0 in
-      let n : suc (length (kept-by has-record (set (take count feeds) i v))) ≡ length (kept-by has-record (take count feeds)) = count-less has-record (take count feeds) i v Closed row-in e′ k in
-      (let s : w - 1 ≡ length (kept-by has-record (set (take count feeds) i v)) = omega arith in s ∙ ap (λ z. length (kept-by has-record z)) row-set,
-       subst (λ z. Queued z q) row-set (queued-less (take count feeds) i v q row-in k h))
+      let n : suc (length (kept-by has-record (set (take count feeds) i v))) ≡ length (kept-by has-record (take count feeds)) = count-less has-record (take count feeds) i v Closed row-in e′ k in (
+        let s : w - 1 ≡ length (kept-by has-record (set (take count feeds) i v)) = omega arith in s ∙ ap (λ z. length (kept-by has-record z)) row-set,
+        subst (λ z. Queued z q) row-set (queued-less (take count feeds) i v q row-in k h),
+      )
 
 pub queue-fits : (count : ℕ) (feeds : List FeedState) (w : ℕ) → Counted (take count feeds) w → count ≤ 64 → w ≤ 64
 queue-fits count feeds w c h = omega (arith, count-most has-record (take count feeds), length-take count feeds)

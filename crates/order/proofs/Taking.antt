@@ -53,6 +53,7 @@ shifted w q r a b h l = ext-getD 0 (take (w - 1) r) (drop 1 (take w q)) sizes at
   where
     sizes : length (take (w - 1) r) ≡ length (drop 1 (take w q))
     sizes = omega (arith, length-take (w - 1) r, length-drop 1 (take w q), length-take w q)
+
     at : (i : ℕ) → i < length (take (w - 1) r) → getD (take (w - 1) r) i 0 ≡ getD (drop 1 (take w q)) i 0
     at i k =
         let n : i < w - 1 = omega (arith, length-take (w - 1) r) in
@@ -87,10 +88,10 @@ module _ (table : Table) (feeds : List FeedState) (count : ℕ) (queue : List �
       let r : Result (Handed T) _ = Ok (record { feed = f; tick = t; body = getD slots f d }) in
       subst (λ b. take-if-short before slots b r) (sym (le-ltb (length slots) (length (take count feeds)) n))
       (subst (λ z. take-at before slots z r) (sym (o .is))
-        (getD slots f d, nth-getD slots f d (omega arith), λ i. Ok (record { feed = f; tick = (e ∙ ap held (sym (o .at))) i; body = getD slots f d })))
+      (getD slots f d, nth-getD slots f d (omega arith), λ i. Ok (record { feed = f; tick = (e ∙ ap held (sym (o .at))) i; body = getD slots f d })))
 
   pub take-written : (v : FeedState) (r : List ℕ) (t : ℕ) (x : T) → v ≡ released (getD feeds f Idle) → take (waiting - 1) r ≡ rest (take waiting queue) →
-    _≡_ {A = State} (record { table = table; feeds = take count (set feeds f v); queue = take (waiting - 1) r; last = last }) (after-take before (Ok (record { feed = f; tick = t; body = x })))
+      _≡_ {A = State} (record { table = table; feeds = take count (set feeds f v); queue = take (waiting - 1) r; last = last }) (after-take before (Ok (record { feed = f; tick = t; body = x })))
   take-written v r t x e q =
       let e′ : take count (set feeds f v) ≡ set (take count feeds) f (released (feed-state before f)) = take-set-lt count feeds f v (o .inside) ∙ ap (set (take count feeds) f) (e ∙ ap released (sym (o .at))) in
       λ i. record { table = table; feeds = e′ i; queue = q i; last = last }

@@ -69,18 +69,18 @@ admits-few n k = go (ltb n 1 || ltb 64 n) (ltb k n) refl
 module _ {T : Type 0} (m : BankMeaning) (law : LawfulBank m) (start : Table) (sound-start : Sound start) where
   made-kept : (slots : List T) → Kept m [] (made m start slots)
   made-kept slots = record {
-      gone = [];
-      left = [];
-      split = refl;
-      gave = refl;
-      queue = refl;
-      wait = λ f. made-wait (admits (m .feeds) (length slots)) f (nth slots f);
-      rise = tt;
-      past = tt;
-      good = tt;
-      sound = sound-start;
-      room = let h = admits-few (m .feeds) (length slots) in omega (arith, length-replicate (admits (m .feeds) (length slots)) Idle);
-    }
+    gone = [];
+    left = [];
+    split = refl;
+    gave = refl;
+    queue = refl;
+    wait = λ f. made-wait (admits (m .feeds) (length slots)) f (nth slots f);
+    rise = tt;
+    past = tt;
+    good = tt;
+    sound = sound-start;
+    room = let h = admits-few (m .feeds) (length slots) in omega (arith, length-replicate (admits (m .feeds) (length slots)) Idle);
+  }
 
   run-keeps : (vs ws : List (Event T)) (d e : Desk T) → Kept m vs d → Run m d ws e → Kept m (vs ++ ws) e
   run-keeps vs [] d e k r = let t = subst (Kept m vs) (sym r) k in subst (λ z. Kept m z e) (sym (append-nil vs)) t
@@ -98,9 +98,10 @@ module _ {T : Type 0} (m : BankMeaning) (law : LawfulBank m) (start : Table) (so
     -- what holds of each accepted record holds of the nth of a feed
     nth-accepted : (P : Record T → Type 0) → All P (k .gone ++ k .left) → (f n : ℕ) (r : Record T) → nth (accepted-of f vs) n ≡ Some r → P r × (r .feed ≡ f)
     nth-accepted P h f n r e =
-        let all : All P (accepted vs) = subst (All P) (sym (k .split)) h in
-        (all-nth P (accepted-of f vs) n r (all-kept-by (λ q. eqb (q .feed) f) P (accepted vs) all) e,
-         eqb-true (r .feed) f (all-nth (λ q. eqb (q .feed) f ≡ true) (accepted-of f vs) n r (kept-by-passes (λ q. eqb (q .feed) f) (accepted vs)) e))
+        let all : All P (accepted vs) = subst (All P) (sym (k .split)) h in (
+          all-nth P (accepted-of f vs) n r (all-kept-by (λ q. eqb (q .feed) f) P (accepted vs) all) e,
+          eqb-true (r .feed) f (all-nth (λ q. eqb (q .feed) f ≡ true) (accepted-of f vs) n r (kept-by-passes (λ q. eqb (q .feed) f) (accepted vs)) e),
+        )
 
     read-still : (f n : ℕ) (r : Record T) → nth (accepted-of f vs) n ≡ Some r → (f < m .feeds) × (m .scale-of f .reads (d .joiner .table) (r .stamp) ≡ Ok (r .tick))
     read-still f n r e =
@@ -122,7 +123,7 @@ module _ {T : Type 0} (m : BankMeaning) (law : LawfulBank m) (start : Table) (so
     all-ours : All (λ r. (r .feed < length (d .joiner .feeds)) × Count (r .tick)) (accepted vs)
     all-ours = subst (All (λ r. (r .feed < length (d .joiner .feeds)) × Count (r .tick))) (sym (k .split))
         (all-weaker (Good m (d .joiner)) (λ r. (r .feed < length (d .joiner .feeds)) × Count (r .tick))
-          (λ r h. (h .0, law (r .feed) (h .1) .reads-counts (k .sound) (h .2))) (k .gone ++ k .left) (k .good))
+        (λ r h. (h .0, law (r .feed) (h .1) .reads-counts (k .sound) (h .2))) (k .gone ++ k .left) (k .good))
 
     given-is : (f : ℕ) → given-of f vs ≡ map handed (of-feed f (k .gone))
     given-is f = ap (kept-by (λ g. eqb (g .feed) f)) (k .gave) ∙ kept-map handed (λ r. eqb (r .feed) f) (λ g. eqb (g .feed) f) (λ r. refl) (k .gone)
@@ -157,9 +158,10 @@ module _ {T : Type 0} (m : BankMeaning) (law : LawfulBank m) (start : Table) (so
         subst (λ z. 0 < length (waiting-in (feed-state (d .joiner) f) z)) (sym (o .1)) (some-waits (feed-state (d .joiner) f) (o .0) w)
 
     waits-held : (f : ℕ) → (length (given-of f vs) < length (accepted-of f vs)) ↔ Waits (feed-state (d .joiner) f)
-    waits-held f =
-        (λ h. waits-some (feed-state (d .joiner) f) (nth (d .slots) f) (let c = counts f in omega arith),
-         λ w. let p = held-waits f w in let c = counts f in omega arith)
+    waits-held f = (
+      λ h. waits-some (feed-state (d .joiner) f) (nth (d .slots) f) (let c = counts f in omega arith),
+      λ w. let p = held-waits f w in let c = counts f in omega arith,
+    )
 
     fall-never : Never-falls (map (λ g. g .tick) (given vs))
     fall-never =
@@ -193,9 +195,9 @@ module _ {T : Type 0} (m : BankMeaning) (law : LawfulBank m) (start : Table) (so
         let same : o .head .feed ≡ f = ap (λ z. z .feed) (o .same) ∙ b in
         let is : of-feed f (o .head ∷ more) ≡ o .head ∷ of-feed f more = ap (λ t. cond t (o .head ∷ of-feed f more) (of-feed f more)) (eq-eqb (o .head .feed) f same) in
         some-same (sym (nth-seam (of-feed f (k .gone)) (o .head) (of-feed f more))
-          ∙ ap (λ z. nth (of-feed f (k .gone) ++ z) (length (of-feed f (k .gone)))) (sym is)
-          ∙ ap (λ z. nth z (length (of-feed f (k .gone)))) (sym (seam-of f))
-          ∙ ap (λ z. nth (accepted-of f (before ++ v ∷ after)) z) (sym (c ∙ gone-count f)) ∙ a)
+        ∙ ap (λ z. nth (of-feed f (k .gone) ++ z) (length (of-feed f (k .gone)))) (sym is)
+        ∙ ap (λ z. nth z (length (of-feed f (k .gone)))) (sym (seam-of f))
+        ∙ ap (λ z. nth (accepted-of f (before ++ v ∷ after)) z) (sym (c ∙ gone-count f)) ∙ a)
 
     -- a record that has not been handed out yet has no earlier tick
     not-before : (f n : ℕ) (r : Record T) → nth (accepted-of f (before ++ v ∷ after)) n ≡ Some r → length (given-of f before) ≤ n → o .head .tick ≤ r .tick
@@ -213,9 +215,9 @@ module _ {T : Type 0} (m : BankMeaning) (law : LawfulBank m) (start : Table) (so
     kept-after vs d run = run-keeps [] vs (made m start slots) d (made-kept slots) run
 
     true-order : (before after : List (Event T)) (g : Handed T) (d : Desk T) → Run m (made m start slots) (before ++ Take (Ok g) ∷ after) d →
-      (f n t : ℕ) (r : Record T) → nth (accepted-of f (before ++ Take (Ok g) ∷ after)) n ≡ Some r → True-tick m d f r t →
-      (f′ n′ t′ : ℕ) (r′ : Record T) → nth (accepted-of f′ (before ++ Take (Ok g) ∷ after)) n′ ≡ Some r′ → True-tick m d f′ r′ t′ →
-      t′ + m .scale-of f .loss < t → g .feed ≡ f → n ≡ length (given-of f before) → n′ < length (given-of f′ before)
+        (f n t : ℕ) (r : Record T) → nth (accepted-of f (before ++ Take (Ok g) ∷ after)) n ≡ Some r → True-tick m d f r t →
+        (f′ n′ t′ : ℕ) (r′ : Record T) → nth (accepted-of f′ (before ++ Take (Ok g) ∷ after)) n′ ≡ Some r′ → True-tick m d f′ r′ t′ →
+        t′ + m .scale-of f .loss < t → g .feed ≡ f → n ≡ length (given-of f before) → n′ < length (given-of f′ before)
     true-order before after g d run f n t r a tr f′ n′ t′ r′ a′ tr′ far b c =
         let vs = before ++ Take (Ok g) ∷ after in
         let e : Kept m vs d = kept-after vs d run in
@@ -228,8 +230,8 @@ module _ {T : Type 0} (m : BankMeaning) (law : LawfulBank m) (start : Table) (so
         go vs (s .0) k o e here near near′ (cases-lt n′ (length (given-of f′ before)))
       where
         go : (vs : List (Event T)) (mid : Desk T) (k : Kept m before mid) (o : First m before mid k g) (e : Kept m (before ++ Take (Ok g) ∷ after) d) →
-          o .head .tick ≡ r .tick → (r .tick ≤ t) × (t - r .tick ≤ m .scale-of f .loss) → (r′ .tick ≤ t′) × (t′ - r′ .tick ≤ m .scale-of f′ .loss) →
-          (n′ < length (given-of f′ before)) ⊎ (length (given-of f′ before) ≤ n′) → n′ < length (given-of f′ before)
+            o .head .tick ≡ r .tick → (r .tick ≤ t) × (t - r .tick ≤ m .scale-of f .loss) → (r′ .tick ≤ t′) × (t′ - r′ .tick ≤ m .scale-of f′ .loss) →
+            (n′ < length (given-of f′ before)) ⊎ (length (given-of f′ before) ≤ n′) → n′ < length (given-of f′ before)
         go vs mid k o e here near near′ (inl h) = h
         go vs mid k o e here near near′ (inr h) =
             let low = not-before before after (Take (Ok g)) mid d k e g o f′ n′ r′ a′ h in
@@ -238,17 +240,17 @@ module _ {T : Type 0} (m : BankMeaning) (law : LawfulBank m) (start : Table) (so
     -- the promise
     pub order-kept : (vs : List (Event T)) (d : Desk T) → Run m (made m start slots) vs d → Order-kept m vs d
     order-kept vs d run = record {
-        near-true-ticks = λ f n t r g a b tr.
+      near-true-ticks = λ f n t r g a b tr.
           subst (λ z. (z .tick ≤ t) × (t - z .tick ≤ m .scale-of f .loss)) (given-tick vs d (kept-after vs d run) f n r g a b) (near-true vs d (kept-after vs d run) f n t r a tr);
-        in-true-order = λ f n t r a tr f′ n′ t′ r′ a′ tr′ far before after v is h.
+      in-true-order = λ f n t r a tr f′ n′ t′ r′ a′ tr′ far before after v is h.
           let same : vs ≡ before ++ Take (Ok (h .0)) ∷ after = is ∙ ap (λ z. before ++ z ∷ after) (h .1) in
           true-order before after (h .0) d (subst (λ z. Run m (made m start slots) z d) same run)
-            f n t r (ap (λ z. nth (accepted-of f z) n) (sym same) ∙ a) tr f′ n′ t′ r′ (ap (λ z. nth (accepted-of f′ z) n′) (sym same) ∙ a′) tr′ far (h .2) (h .3);
-        ticks-never-fall = fall-never vs d (kept-after vs d run);
-        all-in-turn = turn vs d (kept-after vs d run);
-        waits-when-held = waits-held vs d (kept-after vs d run);
-        still-read = λ f n r a. read-still vs d (kept-after vs d run) f n r a .1;
-        first-come = given-first vs d (kept-after vs d run);
-        ours = all-ours vs d (kept-after vs d run);
-        table-sound = kept-after vs d run .sound;
-      }
+          f n t r (ap (λ z. nth (accepted-of f z) n) (sym same) ∙ a) tr f′ n′ t′ r′ (ap (λ z. nth (accepted-of f′ z) n′) (sym same) ∙ a′) tr′ far (h .2) (h .3);
+      ticks-never-fall = fall-never vs d (kept-after vs d run);
+      all-in-turn = turn vs d (kept-after vs d run);
+      waits-when-held = waits-held vs d (kept-after vs d run);
+      still-read = λ f n r a. read-still vs d (kept-after vs d run) f n r a .1;
+      first-come = given-first vs d (kept-after vs d run);
+      ours = all-ours vs d (kept-after vs d run);
+      table-sound = kept-after vs d run .sound;
+    }

@@ -56,9 +56,9 @@ admits n k = admitted n (size-answer n k)
 -- a joiner just made: a table to start from, every feed idle, nothing accepted
 abbrev pub made : {T : Type 0} → BankMeaning → Table → List T → Desk T
 made m start slots = record {
-    joiner = record { table = start; feeds = replicate (admits (m .feeds) (length slots)) Idle; queue = []; last = 0 };
-    slots = slots;
-  }
+  joiner = record { table = start; feeds = replicate (admits (m .feeds) (length slots)) Idle; queue = []; last = 0 };
+  slots = slots;
+}
 
 -- PUT
 
@@ -88,13 +88,14 @@ put-answer m s k f p =
 -- an accepted record waits last in the queue, its tick in the feed's state and its body in the feed's slot
 abbrev pub after-put : {T : Type 0} → Desk T → ℕ → T → Result ℕ Said → Desk T
 after-put d f x (Ok t) = record {
-    joiner = record {
-      table = d .joiner .table;
-      feeds = set (d .joiner .feeds) f (Holding t);
-      queue = d .joiner .queue ++ f ∷ [];
-      last = t };
-    slots = set (d .slots) f x;
-  }
+  joiner = record {
+    table = d .joiner .table;
+    feeds = set (d .joiner .feeds) f (Holding t);
+    queue = d .joiner .queue ++ f ∷ [];
+    last = t;
+  };
+  slots = set (d .slots) f x;
+}
 after-put d f x (Err e) = d
 
 -- CLOSE

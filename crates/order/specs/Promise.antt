@@ -23,19 +23,19 @@ True-tick m d f r t = m .scale-of f .shows (d .joiner .table) t ≡ Ok (r .stamp
 pub record Order-kept {T : Type 0} (m : BankMeaning) (vs : List (Event T)) (d : Desk T) : Type 0 where
   -- against each true tick of a record handed out, the tick that take gave is not later, and is earlier by at most that feed's loss
   pub near-true-ticks :
-    (f n t : ℕ) (r : Record T) (g : Handed T) → nth (accepted-of f vs) n ≡ Some r → nth (given-of f vs) n ≡ Some g →
-    True-tick m d f r t → (g .tick ≤ t) × (t - g .tick ≤ m .scale-of f .loss)
+      (f n t : ℕ) (r : Record T) (g : Handed T) → nth (accepted-of f vs) n ≡ Some r → nth (given-of f vs) n ≡ Some g →
+      True-tick m d f r t → (g .tick ≤ t) × (t - g .tick ≤ m .scale-of f .loss)
   -- if one accepted record's true tick exceeds another's by more than its own feed's loss, it is not handed out unless that other was handed out before it
   pub in-true-order :
-    (f n t : ℕ) (r : Record T) → nth (accepted-of f vs) n ≡ Some r → True-tick m d f r t →
-    (f′ n′ t′ : ℕ) (r′ : Record T) → nth (accepted-of f′ vs) n′ ≡ Some r′ → True-tick m d f′ r′ t′ →
-    t′ + m .scale-of f .loss < t →
-    (before after : List (Event T)) (v : Event T) → vs ≡ before ++ v ∷ after → Hands-out f n before v → n′ < length (given-of f′ before)
+      (f n t : ℕ) (r : Record T) → nth (accepted-of f vs) n ≡ Some r → True-tick m d f r t →
+      (f′ n′ t′ : ℕ) (r′ : Record T) → nth (accepted-of f′ vs) n′ ≡ Some r′ → True-tick m d f′ r′ t′ →
+      t′ + m .scale-of f .loss < t →
+      (before after : List (Event T)) (v : Event T) → vs ≡ before ++ v ∷ after → Hands-out f n before v → n′ < length (given-of f′ before)
   -- the ticks that take gives, over all feeds, never fall
   pub ticks-never-fall : Never-falls (map (λ g. g .tick) (given vs))
   -- what take gave for a feed, and then its waiting record, are the ticks and bodies of its accepted records in the order of the puts
   pub all-in-turn :
-    (f : ℕ) → map (λ g. (g .tick, g .body)) (given-of f vs) ++ waiting d f ≡ map (λ r. (r .tick, r .body)) (accepted-of f vs)
+      (f : ℕ) → map (λ g. (g .tick, g .body)) (given-of f vs) ++ waiting d f ≡ map (λ r. (r .tick, r .body)) (accepted-of f vs)
   -- a record waits exactly when the feed is holding or closing
   pub waits-when-held : (f : ℕ) → (length (given-of f vs) < length (accepted-of f vs)) ↔ Waits (feed-state (d .joiner) f)
   -- each accepted stamp still reads as its tick

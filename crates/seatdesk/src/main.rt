@@ -21,7 +21,10 @@ type Clock = Scale<Posix, Tai>;
 
 type Clocks = Beside<Clock, Clock>;
 
-const CLOCK: Clock = Scale { form: Posix, rung: Tai };
+const CLOCK: Clock = Scale {
+    form: Posix,
+    rung: Tai,
+};
 
 const SERVICE: u8 = 0;
 
@@ -37,13 +40,26 @@ fn main(rt: LibcRuntime) -> Result<(), AnyError> {
 fn story(rt: &LibcRuntime) -> Result<(), AnyError> {
     let mut slots = [event(Action::Denied); 2];
     let mut shelf = Shelf::new(&mut slots);
-    let mut desk = Joiner::new(Beside { left: CLOCK, right: CLOCK }, &shelf);
-    println!(rt, "A desk for two feeds: feed 0 is the licence service, feed 1 a gateway.")?;
+    let mut desk = Joiner::new(
+        Beside {
+            left: CLOCK,
+            right: CLOCK,
+        },
+        &shelf,
+    );
+    println!(
+        rt,
+        "A desk for two feeds: feed 0 is the licence service, feed 1 a gateway."
+    )?;
     morning(rt, &mut desk, &mut shelf)?;
     evening(rt, &mut desk, &mut shelf)
 }
 
-fn morning(rt: &LibcRuntime, desk: &mut Joiner<Clocks>, shelf: &mut Shelf<'_, LicenceEvent>) -> Result<(), AnyError> {
+fn morning(
+    rt: &LibcRuntime,
+    desk: &mut Joiner<Clocks>,
+    shelf: &mut Shelf<'_, LicenceEvent>,
+) -> Result<(), AnyError> {
     take(rt, desk, shelf)?;
     put(rt, desk, shelf, SERVICE, NINE, Action::Taken)?;
     put(rt, desk, shelf, SERVICE, NINE + 60, Action::GivenBack)?;
@@ -55,19 +71,43 @@ fn morning(rt: &LibcRuntime, desk: &mut Joiner<Clocks>, shelf: &mut Shelf<'_, Li
     take(rt, desk, shelf)
 }
 
-fn evening(rt: &LibcRuntime, desk: &mut Joiner<Clocks>, shelf: &mut Shelf<'_, LicenceEvent>) -> Result<(), AnyError> {
+fn evening(
+    rt: &LibcRuntime,
+    desk: &mut Joiner<Clocks>,
+    shelf: &mut Shelf<'_, LicenceEvent>,
+) -> Result<(), AnyError> {
     put(rt, desk, shelf, GATEWAY, NINE + 90, Action::Taken)?;
     close(rt, desk, GATEWAY)?;
     put(rt, desk, shelf, GATEWAY, NINE + 120, Action::GivenBack)?;
     close(rt, desk, SERVICE)?;
     take(rt, desk, shelf)?;
     take(rt, desk, shelf)?;
-    renew(rt, desk, Bulletin { change: 1, day: 20_089, expiry: 20_270 })?;
-    renew(rt, desk, Bulletin { change: 1, day: 17_532, expiry: 20_270 })
+    renew(
+        rt,
+        desk,
+        Bulletin {
+            change: 1,
+            day: 20_089,
+            expiry: 20_270,
+        },
+    )?;
+    renew(
+        rt,
+        desk,
+        Bulletin {
+            change: 1,
+            day: 17_532,
+            expiry: 20_270,
+        },
+    )
 }
 
 fn event(action: Action) -> LicenceEvent {
-    LicenceEvent { action, seat: 42, tool: 7 }
+    LicenceEvent {
+        action,
+        seat: 42,
+        tool: 7,
+    }
 }
 
 fn words(action: Action) -> &'static str {
@@ -78,10 +118,20 @@ fn words(action: Action) -> &'static str {
     }
 }
 
-fn put(rt: &LibcRuntime, desk: &mut Joiner<Clocks>, shelf: &mut Shelf<'_, LicenceEvent>, feed: u8, seconds: u64, action: Action) -> Result<(), AnyError> {
+fn put(
+    rt: &LibcRuntime,
+    desk: &mut Joiner<Clocks>,
+    shelf: &mut Shelf<'_, LicenceEvent>,
+    feed: u8,
+    seconds: u64,
+    action: Action,
+) -> Result<(), AnyError> {
     let what = words(action);
     let since = seconds.saturating_sub(NINE);
-    print!(rt, "put   feed {feed}, {since:3} s after nine, seat 42 {what}: ")?;
+    print!(
+        rt,
+        "put   feed {feed}, {since:3} s after nine, seat 42 {what}: "
+    )?;
     match desk.put(shelf, feed, (seconds, 0), event(action)) {
         Ok(tick) => println!(rt, "accepted at tick {tick}")?,
         Err(refusal) => refused(rt, refusal)?,
@@ -89,7 +139,11 @@ fn put(rt: &LibcRuntime, desk: &mut Joiner<Clocks>, shelf: &mut Shelf<'_, Licenc
     Ok(())
 }
 
-fn take(rt: &LibcRuntime, desk: &mut Joiner<Clocks>, shelf: &mut Shelf<'_, LicenceEvent>) -> Result<(), AnyError> {
+fn take(
+    rt: &LibcRuntime,
+    desk: &mut Joiner<Clocks>,
+    shelf: &mut Shelf<'_, LicenceEvent>,
+) -> Result<(), AnyError> {
     print!(rt, "take  ")?;
     match desk.take(shelf) {
         Ok(handed) => given(rt, handed)?,
@@ -102,7 +156,10 @@ fn given(rt: &LibcRuntime, handed: Handed<LicenceEvent>) -> Result<(), AnyError>
     let Handed { feed, tick, body } = handed;
     let LicenceEvent { action, seat, tool } = body;
     let what = words(action);
-    println!(rt, "feed {feed}, tick {tick}: seat {seat} of tool {tool} was {what}")?;
+    println!(
+        rt,
+        "feed {feed}, tick {tick}: seat {seat} of tool {tool} was {what}"
+    )?;
     Ok(())
 }
 

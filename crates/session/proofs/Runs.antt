@@ -45,5 +45,6 @@ session-run m d e lines out vs (answered p q r line ls a more us ws (replied c b
 -- the bytes that count
 pub cut : (xs front : List ℕ) (n : ℕ) → n ≡ min (length xs) 65536 → front ≡ take n xs → front ≡ take input-limit xs
 cut xs front n e f = elim (cases-lt (length xs) 65536) [
-    inl l ↦ let s : n ≡ length xs = omega arith in f ∙ take-all n xs (omega arith) ∙ sym (take-all 65536 xs (omega arith))
-  | inr g ↦ let s : n ≡ 65536 = omega arith in f ∙ ap (λ (k : ℕ). take k xs) s ]
+  | inl l ↦ let s : n ≡ length xs = omega arith in f ∙ take-all n xs (omega arith) ∙ sym (take-all 65536 xs (omega arith))
+  | inr g ↦ let s : n ≡ 65536 = omega arith in f ∙ ap (λ (k : ℕ). take k xs) s
+]

@@ -23,4 +23,4 @@ pub data Answers (m : BankMeaning) (d : Desk LicenceEvent) (line : List ℕ) : A
 pub data Session (m : BankMeaning) : Desk LicenceEvent → List (List ℕ) → List ℕ → List (Event LicenceEvent) → Desk LicenceEvent → Type 0 where
   over : (d : Desk LicenceEvent) → Session m d [] [] [] d
   answered : (d e f : Desk LicenceEvent) (line : List ℕ) (lines : List (List ℕ)) (a : Answer) (out : List ℕ) (vs ws : List (Event LicenceEvent)) →
-    Answers m d line a vs e → Session m e lines out ws f → Session m d (line ∷ lines) (answer-line a ++ out) (vs ++ ws) f
+      Answers m d line a vs e → Session m e lines out ws f → Session m d (line ∷ lines) (answer-line a ++ out) (vs ++ ws) f

@@ -25,11 +25,19 @@ use std::alloc::Global;
 pub const INPUT_LIMIT: usize = 65_536;
 
 // What the slots hold before anything is put.
-const NOTHING: LicenceEvent = LicenceEvent { action: Action::Denied, seat: 0, tool: 0 };
+const NOTHING: LicenceEvent = LicenceEvent {
+    action: Action::Denied,
+    seat: 0,
+    tool: 0,
+};
 
 // The answer lines to an input, of a joiner just made over this bank. They are those of a run of the joiner on the frames of the input,
 // and so the order is kept in what they say.
-pub fn answer_lines<B: Bank + Drop>(heap: Global, bank: B, input: &[u8]) -> Result<Vec<u8>, AllocError>
+pub fn answer_lines<B: Bank + Drop>(
+    heap: Global,
+    bank: B,
+    input: &[u8],
+) -> Result<Vec<u8>, AllocError>
     ensures { λ r. ⌜ whole r (λ v. (slots : List Body) × (vs : List (Event Body)) × (e : Desk Body) × Session (B·Bank .meaning bank) (made (B·Bank .meaning bank) starting slots) (lines-of (take input-limit (now (input .entry)))) (vec-items v) vs e × Order-kept (B·Bank .meaning bank) vs e) ⌝ }
 {
     let (counted, _) = input.split_at(input.len().min(INPUT_LIMIT));

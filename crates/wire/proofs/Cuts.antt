@@ -46,6 +46,7 @@ first-line (x ∷ xs) h = elim (cases-bool (eqb x 10)) [ inl t ↦ feed t | inr 
   where
     feed : eqb x 10 ≡ true → lines-of (x ∷ xs) ≡ take (line-length (x ∷ xs)) (x ∷ xs) ∷ lines-of (drop (suc (line-length (x ∷ xs))) (x ∷ xs))
     feed t = rw t
+
     other : (ys : List ℕ) → eqb x 10 ≡ false → (0 < length ys → lines-of ys ≡ take (line-length ys) ys ∷ lines-of (drop (suc (line-length ys)) ys)) → lines-of (x ∷ ys) ≡ take (line-length (x ∷ ys)) (x ∷ ys) ∷ lines-of (drop (suc (line-length (x ∷ ys))) (x ∷ ys))
     other [] f ih = rw f
     other (y ∷ ys) f ih = rw (f, ih (omega arith))
@@ -62,10 +63,10 @@ lines-after xs place =
 
 pub reads-line : (xs : List ℕ) (place : ℕ) → place < length xs → Reads-line xs place (Some (take (line-length (drop place xs)) (drop place xs))) (place-after xs place)
 reads-line xs place h = record {
-    which = rw (lt-ltb place (length xs) h);
-    moves = refl;
-    lines-left = first-line (drop place xs) (simp length-drop (omega arith)) ∙ ap (λ (ls : List (List ℕ)). take (line-length (drop place xs)) (drop place xs) ∷ ls) (lines-after xs place);
-  }
+  which = rw (lt-ltb place (length xs) h);
+  moves = refl;
+  lines-left = first-line (drop place xs) (simp length-drop (omega arith)) ∙ ap (λ (ls : List (List ℕ)). take (line-length (drop place xs)) (drop place xs) ∷ ls) (lines-after xs place);
+}
 
 -- the same of what a reader has in hand: the rest of the input, the line's length and the next place
 pub reads-by : (xs : List ℕ) (place : ℕ) (rest line : List ℕ) (n then : ℕ) → place < length xs → rest ≡ drop place xs → n ≡ line-length rest → line ≡ take n rest → then ≡ min (length xs) (place + n + 1) → Reads-line xs place (Some line) then
@@ -76,13 +77,14 @@ reads-by xs place rest line n then h a b c d =
 
 pub reads-none : (xs : List ℕ) (place : ℕ) → length xs ≡ place → Reads-line xs place None place
 reads-none xs place h = record {
-    which = rw (le-ltb place (length xs) (omega arith));
-    moves = omega arith;
-    lines-left = refl;
-  }
+  which = rw (le-ltb place (length xs) (omega arith));
+  moves = omega arith;
+  lines-left = refl;
+}
 
 -- where a reader finds no line, none is left
 pub none-left : (xs : List ℕ) (place then : ℕ) → Reads-line xs place None then → lines-of (drop place xs) ≡ []
 none-left xs place then r = elim (cases-lt place (length xs)) [
-    inl l ↦ let e = rw (lt-ltb place (length xs) l) at (r .which) in let z : _≡_ {A = ℕ} 0 1 = cc in absurd (omega arith)
-  | inr g ↦ no-lines xs place g ]
+  | inl l ↦ let e = rw (lt-ltb place (length xs) l) at (r .which) in let z : _≡_ {A = ℕ} 0 1 = cc in absurd (omega arith)
+  | inr g ↦ no-lines xs place g
+]

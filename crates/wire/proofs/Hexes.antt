@@ -22,8 +22,9 @@ digit-high n h = rw (le-ltb n 10 h)
 -- a digit has one value
 digit-one : (m n : ℕ) → hex-digit m ≡ hex-digit n → m ≡ n
 digit-one m n e = elim (cases-lt m 10) [
-    inl l ↦ elim (cases-lt n 10) [ inl k ↦ omega (arith, digit-low m l, digit-low n k) | inr k ↦ omega (arith, digit-low m l, digit-high n k) ]
-  | inr l ↦ elim (cases-lt n 10) [ inl k ↦ omega (arith, digit-high m l, digit-low n k) | inr k ↦ omega (arith, digit-high m l, digit-high n k) ] ]
+  | inl l ↦ elim (cases-lt n 10) [ inl k ↦ omega (arith, digit-low m l, digit-low n k) | inr k ↦ omega (arith, digit-low m l, digit-high n k) ]
+  | inr l ↦ elim (cases-lt n 10) [ inl k ↦ omega (arith, digit-high m l, digit-low n k) | inr k ↦ omega (arith, digit-high m l, digit-high n k) ]
+]
 
 pub hexed-length : (bs : List ℕ) → length (hexed bs) ≡ 2 * length bs
 hexed-length [] = refl
@@ -32,7 +33,6 @@ hexed-length (b ∷ bs) = let e = hexed-length bs in omega arith
 pub hexed-append : (xs bs : List ℕ) → hexed (xs ++ bs) ≡ hexed xs ++ hexed bs
 hexed-append [] bs = refl
 hexed-append (x ∷ xs) bs = ap (λ (ys : List ℕ). hex-digit (x / 16) ∷ (hex-digit (x % 16) ∷ ys)) (hexed-append xs bs)
-
 
 pub hexed-one : (xs bs : List ℕ) → hexed xs ≡ hexed bs → xs ≡ bs
 hexed-one [] [] e = refl

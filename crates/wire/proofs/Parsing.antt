@@ -40,7 +40,7 @@ parses-back (Put feed stamp event) h =
     let rest : List ℕ = feed ∷ (big-endian 8 (stamp .0) ++ (big-endian 8 (stamp .1) ++ event-bytes event)) in
     ap (put-of rest) (action-there (event .action))
     ∙ same-put feed (event .action) (eight-at (big-endian 8 (stamp .0)) 0) (eight-at (big-endian 8 (stamp .1)) 0) (quad-at (big-endian 4 (event .seat)) 0) (pair-at (big-endian 2 (event .tool)) 0) (stamp .0) (stamp .1) (event .seat) (event .tool)
-      (eight-there (stamp .0) (h .1)) (eight-there (stamp .1) (h .2)) (quad-there (event .seat) (h .3)) (pair-there (event .tool) (h .4))
+    (eight-there (stamp .0) (h .1)) (eight-there (stamp .1) (h .2)) (quad-there (event .seat) (h .3)) (pair-there (event .tool) (h .4))
 parses-back (Close feed) h = refl
 parses-back Take h = refl
 parses-back (Renew b) h =
@@ -63,12 +63,15 @@ spelled (suc n) (x ∷ xs) h = ap (λ (ys : List ℕ). x ∷ ys) (behind n 0 x x
 
 action-back : (n : ℕ) (a : Action) → action-of n ≡ Some a → action-code a ≡ n
 action-back n a e = elim (cases-bool (eqb n 1)) [
-    inl t ↦ let f = rw t at e in let s : Taken ≡ a = cc in ap action-code (sym s) ∙ sym (eqb-true n 1 t)
+  | inl t ↦ let f = rw t at e in let s : Taken ≡ a = cc in ap action-code (sym s) ∙ sym (eqb-true n 1 t)
   | inr t ↦ let f = rw t at e in elim (cases-bool (eqb n 2)) [
-      inl u ↦ let g = rw u at f in let s : GivenBack ≡ a = cc in ap action-code (sym s) ∙ sym (eqb-true n 2 u)
+    | inl u ↦ let g = rw u at f in let s : GivenBack ≡ a = cc in ap action-code (sym s) ∙ sym (eqb-true n 2 u)
     | inr u ↦ let g = rw u at f in elim (cases-bool (eqb n 3)) [
-        inl v ↦ let h = rw v at g in let s : Denied ≡ a = cc in ap action-code (sym s) ∙ sym (eqb-true n 3 v)
-      | inr v ↦ let h = rw v at g in let z : _≡_ {A = ℕ} 0 1 = cc in absurd (omega arith) ] ] ]
+      | inl v ↦ let h = rw v at g in let s : Denied ≡ a = cc in ap action-code (sym s) ∙ sym (eqb-true n 3 v)
+      | inr v ↦ let h = rw v at g in let z : _≡_ {A = ℕ} 0 1 = cc in absurd (omega arith)
+    ]
+  ]
+]
 
 module _ (xs : List ℕ) (bytes : Bytes xs) where
   at : (k : ℕ) → getD xs k 0 < 256
@@ -86,7 +89,7 @@ module _ (xs : List ℕ) (bytes : Bytes xs) where
       e
       (quad-back (getD xs 18 0) (getD xs 19 0) (getD xs 20 0) (getD xs 21 0) (at 18) (at 19) (at 20) (at 21))
       (pair-back (getD xs 22 0) (getD xs 23 0) (at 22) (at 23))
-    ∙ spelled 24 xs h)
+      ∙ spelled 24 xs h)
 
   renewal-back : length xs ≡ 9 → frame-bytes (Renew (record { change = getD xs 0 0; day = quad-at xs 1; expiry = quad-at xs 5 })) ≡ 4 ∷ xs
   renewal-back h =
@@ -107,21 +110,24 @@ module _ (xs : List ℕ) (bytes : Bytes xs) where
 
   pub kind-parsed : (kind : ℕ) (c : Call LicenceEvent) → call-of kind xs ≡ Some c → frame-bytes c ≡ kind ∷ xs
   kind-parsed kind c e = elim (cases-bool (eqb kind 1)) [
-      inl t ↦ let p = passed (eqb (length xs) 24) (put-of xs (action-of (getD xs 17 0))) c (rw t at e) in
+    | inl t ↦ let p = passed (eqb (length xs) 24) (put-of xs (action-of (getD xs 17 0))) c (rw t at e) in
         put-parsed c (eqb-true (length xs) 24 (p .0)) (action-of (getD xs 17 0)) refl (p .1) ∙ ap (λ (k : ℕ). k ∷ xs) (sym (eqb-true kind 1 t))
     | inr t ↦ let e1 = rw t at e in elim (cases-bool (eqb kind 2)) [
-        inl u ↦ let p = passed (eqb (length xs) 1) (Some (Close (getD xs 0 0))) c (rw u at e1) in
+      | inl u ↦ let p = passed (eqb (length xs) 1) (Some (Close (getD xs 0 0))) c (rw u at e1) in
           let same : c ≡ Close (getD xs 0 0) = cc in
           ap frame-bytes same ∙ ap (λ (ys : List ℕ). 2 ∷ ys) (spelled 1 xs (eqb-true (length xs) 1 (p .0))) ∙ ap (λ (k : ℕ). k ∷ xs) (sym (eqb-true kind 2 u))
       | inr u ↦ let e2 = rw u at e1 in elim (cases-bool (eqb kind 3)) [
-          inl v ↦ let p = passed (eqb (length xs) 0) (Some Take) c (rw v at e2) in
+        | inl v ↦ let p = passed (eqb (length xs) 0) (Some Take) c (rw v at e2) in
             let same : c ≡ Take = cc in
             ap frame-bytes same ∙ ap (λ (ys : List ℕ). 3 ∷ ys) (spelled 0 xs (eqb-true (length xs) 0 (p .0))) ∙ ap (λ (k : ℕ). k ∷ xs) (sym (eqb-true kind 3 v))
         | inr v ↦ let e3 = rw v at e2 in
             let q = passed (eqb kind 4) (if-long 9 xs (Some (Renew (record { change = getD xs 0 0; day = quad-at xs 1; expiry = quad-at xs 5 })))) c e3 in
             let p = passed (eqb (length xs) 9) (Some (Renew (record { change = getD xs 0 0; day = quad-at xs 1; expiry = quad-at xs 5 }))) c (q .1) in
             let same : c ≡ Renew (record { change = getD xs 0 0; day = quad-at xs 1; expiry = quad-at xs 5 }) = cc in
-            ap frame-bytes same ∙ renewal-back (eqb-true (length xs) 9 (p .0)) ∙ ap (λ (k : ℕ). k ∷ xs) (sym (eqb-true kind 4 (q .0))) ] ] ]
+            ap frame-bytes same ∙ renewal-back (eqb-true (length xs) 9 (p .0)) ∙ ap (λ (k : ℕ). k ∷ xs) (sym (eqb-true kind 4 (q .0)))
+      ]
+    ]
+  ]
 
 pub parsed-writes : (bs : List ℕ) (c : Call LicenceEvent) → Bytes bs → parsed bs ≡ Some c → frame-bytes c ≡ bs
 parsed-writes [] c t e = let z : _≡_ {A = ℕ} 0 1 = cc in absurd (omega arith)

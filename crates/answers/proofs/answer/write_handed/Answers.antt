@@ -20,7 +20,7 @@ returns-in-Continue-write-event c =
     let head : List ℕ = 3 ∷ (0 ∷ []) in
     joined (vec-items (c .args .out .now)) (vec-items (c .write-u64 .last .out)) (vec-items (c .write-event .last .out)) ((head ++ feed) ++ tick) (event-bytes (h .body))
     (joined (vec-items (c .args .out .now)) (vec-items (c .write-byte .last .out)) (vec-items (c .write-u64 .last .out)) (head ++ feed) tick
-      (joined (vec-items (c .args .out .now)) (vec-items (c .write-head .last .out)) (vec-items (c .write-byte .last .out)) head feed (c .in-Continue-write-head .ensures tt) (c .in-Continue-write-byte .ensures tt))
-      (c .in-Continue-write-u64 .ensures tt))
+    (joined (vec-items (c .args .out .now)) (vec-items (c .write-head .last .out)) (vec-items (c .write-byte .last .out)) head feed (c .in-Continue-write-head .ensures tt) (c .in-Continue-write-byte .ensures tt))
+    (c .in-Continue-write-u64 .ensures tt))
     (c .in-Continue-write-event .ensures tt)
     ∙ ap (λ (r : Result (Handed LicenceEvent) Refusal). (vec-items (c .args .out .now)) ++ hexed (3 ∷ handed-bytes r)) (sym (c .in-Ok .is))

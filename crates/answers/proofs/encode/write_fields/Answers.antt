@@ -16,8 +16,8 @@ returns-in-Continue-write-event c =
     let lo : List ℕ = big-endian 8 (c .in-Put .stamp .1) in
     joined (vec-items (c .args .out .now)) (vec-items (c .write-u64-in-Put .last .out)) (vec-items (c .write-event .last .out)) ((head ++ hi) ++ lo) (event-bytes (c .in-Put .body))
     (joined (vec-items (c .args .out .now)) (vec-items (c .write-u64 .last .out)) (vec-items (c .write-u64-in-Put .last .out)) (head ++ hi) lo
-      (joined (vec-items (c .args .out .now)) (vec-items (c .write-head .last .out)) (vec-items (c .write-u64 .last .out)) head hi (c .in-Continue-write-head .ensures tt) (c .in-Continue-write-u64 .ensures tt))
-      (c .in-Continue-write-u64-2 .ensures tt))
+    (joined (vec-items (c .args .out .now)) (vec-items (c .write-head .last .out)) (vec-items (c .write-u64 .last .out)) head hi (c .in-Continue-write-head .ensures tt) (c .in-Continue-write-u64 .ensures tt))
+    (c .in-Continue-write-u64-2 .ensures tt))
     (c .in-Continue-write-event .ensures tt)
     ∙ ap (λ (k : Call LicenceEvent). (vec-items (c .args .out .now)) ++ hexed (frame-bytes k)) (sym (c .in-Put .is))
 

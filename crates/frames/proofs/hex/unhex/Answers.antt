@@ -33,11 +33,10 @@ loop-i-again c =
     let line = c .args .line .now in
     let room : i < length (c .loop-i .bytes) = omega (arith, c .loop-i .inv .0) in
     let high = c .in-Some .ensures tt in
-    let low = c .in-Some-digit-value .ensures tt in
-    (
+    let low = c .in-Some-digit-value .ensures tt in (
       simp length-set (c .loop-i .inv .0),
       bytes-more (c .loop-i .bytes) line i (c .in-Some .high) (c .in-Some-digit-value .low) room (high .0) (low .0) (c .loop-i .inv .1),
-      hexed-more (c .loop-i .bytes) line i (c .in-Some .high) (c .in-Some-digit-value .low) room (high .0) (low .0) (omega arith) (high .1) (low .1) (c .loop-i .inv .2)
+      hexed-more (c .loop-i .bytes) line i (c .in-Some .high) (c .in-Some-digit-value .low) room (high .0) (low .0) (omega arith) (high .1) (low .1) (c .loop-i .inv .2),
     )
 
 -- the loop has come to the line's end
@@ -46,8 +45,7 @@ returns c =
     let bytes = c .loop-i .bytes in
     let line = c .args .line .now in
     let end : c .loop-i .i ≡ length line / 2 = omega arith in
-    let whole : take (2 * c .loop-i .i) line ≡ line = take-all (2 * c .loop-i .i) line (omega arith) in
-    (
+    let whole : take (2 * c .loop-i .i) line ≡ line = take-all (2 * c .loop-i .i) line (omega arith) in (
       subst (λ (k : ℕ). Bytes (take k bytes)) end (c .loop-i .inv .1),
-      ap (λ (k : ℕ). hexed (take k bytes)) (sym end) ∙ c .loop-i .inv .2 ∙ whole
+      ap (λ (k : ℕ). hexed (take k bytes)) (sym end) ∙ c .loop-i .inv .2 ∙ whole,
     )

@@ -17,7 +17,7 @@ returns-in-Ok g c =
 
 pub returns-in-Err : need.returns-in-Err
 returns-in-Err g c = record {
-    answers = ([], no-frame (λ call fits same. let p = c .in-Err .ensures tt .inverts call fits same in let z : _≡_ {A = ℕ} 0 1 = cc in absurd (omega arith)));
-    kept = refl;
-    lent = refl;
-  }
+  answers = ([], no-frame (λ call fits same. let p = c .in-Err .ensures tt .inverts call fits same in let z : _≡_ {A = ℕ} 0 1 = cc in absurd (omega arith)));
+  kept = refl;
+  lent = refl;
+}

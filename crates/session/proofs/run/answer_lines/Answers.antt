@@ -20,11 +20,10 @@ loop-line-holds g c =
     let m = g .B·Bank .meaning (c .new-joiner .result .bank) in
     let first = deskOf (c .new-joiner .result) (c .new-shelf .result .slots .now) in
     let whole : reader .input .now ≡ xs = c .new-reader .ensures .0 ∙ cut (c .args .input .now) (c .split-at .result .0 .now) (c .min .result) (c .min .ensures) (c .split-at .ensures .front) in
-    let lines : lines-of xs ≡ lines-of (drop (reader .place) (reader .input .now)) = ap (λ (ys : List ℕ). lines-of ys) (sym whole) ∙ ap (λ (k : ℕ). lines-of (drop k (reader .input .now))) (sym (c .new-reader .ensures .1)) in
-    (
+    let lines : lines-of xs ≡ lines-of (drop (reader .place) (reader .input .now)) = ap (λ (ys : List ℕ). lines-of ys) (sym whole) ∙ ap (λ (k : ℕ). lines-of (drop k (reader .input .now))) (sym (c .new-reader .ensures .1)) in (
       whole,
       refl,
-      ([], subst (λ (ls : List (List ℕ)). Goes-on m first xs (vec-items (c .new-out .result)) [] first ls) lines (begun m first xs (vec-items (c .new-out .result)) (c .new-out .ensures .items)))
+      ([], subst (λ (ls : List (List ℕ)). Goes-on m first xs (vec-items (c .new-out .result)) [] first ls) lines (begun m first xs (vec-items (c .new-out .result)) (c .new-out .ensures .items))),
     )
 
 pub loop-line-again : need.loop-line-again
@@ -39,16 +38,15 @@ loop-line-again g c =
     let d = deskOf (c .loop-line .joiner) (c .loop-line .shelf .slots .now) in
     let d′ = deskOf (c .answer-line-answer .last .joiner) (c .answer-line-answer .last .shelf .slots .now) in
     let said = c .answer-line-answer .ensures .answers in
-    let answers : Answers m d (c .in-Some .line .now) (c .answer-line-answer .result) (said .0) d′ = subst (λ z. Answers (g .B·Bank .meaning z) d (c .in-Some .line .now) (c .answer-line-answer .result) (said .0) d′) (c .loop-line .inv .1) (said .1) in
-    (
+    let answers : Answers m d (c .in-Some .line .now) (c .answer-line-answer .result) (said .0) d′ = subst (λ z. Answers (g .B·Bank .meaning z) d (c .in-Some .line .now) (c .answer-line-answer .result) (said .0) d′) (c .loop-line .inv .1) (said .1) in (
       next .same ∙ c .loop-line .inv .0,
       c .answer-line-answer .ensures .kept ∙ c .loop-line .inv .1,
       (
         c .loop-line .inv .2 .0 ++ said .0,
         one-more m first xs (vec-items (c .loop-line .out)) (vec-items (c .write-answer .last .out)) (c .in-Some .line .now) (c .loop-line .inv .2 .0) (said .0) d d′
-        (lines-of (drop (reader .place) (reader .input .now))) (lines-of (drop (then .place) (then .input .now))) (c .answer-line-answer .result)
-        (c .loop-line .inv .2 .1) (next .reads .lines-left ∙ ap (λ (ys : List ℕ). c .in-Some .line .now ∷ lines-of (drop (then .place) ys)) (sym (next .same))) answers (c .in-Continue-write-answer .ensures tt)
-      )
+            (lines-of (drop (reader .place) (reader .input .now))) (lines-of (drop (then .place) (then .input .now))) (c .answer-line-answer .result)
+            (c .loop-line .inv .2 .1) (next .reads .lines-left ∙ ap (λ (ys : List ℕ). c .in-Some .line .now ∷ lines-of (drop (then .place) ys)) (sym (next .same))) answers (c .in-Continue-write-answer .ensures tt),
+      ),
     )
 
 pub returns : need.returns

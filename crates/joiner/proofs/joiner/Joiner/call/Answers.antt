@@ -19,8 +19,11 @@ pub returns-in-Take : need.returns-in-Take
 returns-in-Take g c =
     let a = c .take .result in
     record {
-      called = (Take (told a), subst (λ z. Event-of z (reply.Take a) (Take (told a))) (sym (c .in-Take .is)) (a, refl, refl),
-        (c .take .ensures .answer, λ i. record { joiner = c .take .ensures .state i; slots = c .take .ensures .slots i }));
+      called = (
+        Take (told a),
+        subst (λ z. Event-of z (reply.Take a) (Take (told a))) (sym (c .in-Take .is)) (a, refl, refl),
+        (c .take .ensures .answer, λ i. record { joiner = c .take .ensures .state i; slots = c .take .ensures .slots i }),
+      );
       kept = c .take .ensures .kept;
       lent = c .take .ensures .lent;
     }
@@ -29,8 +32,11 @@ pub returns-in-Close : need.returns-in-Close
 returns-in-Close g c =
     let a = c .close .result in
     record {
-      called = (Close (c .in-Close .feed) (told a), subst (λ z. Event-of z (reply.Close a) (Close (c .in-Close .feed) (told a))) (sym (c .in-Close .is)) (a, refl, refl),
-        (c .close .ensures .answer, λ i. record { joiner = c .close .ensures .state i; slots = c .args .shelf .now .slots .now }));
+      called = (
+        Close (c .in-Close .feed) (told a),
+        subst (λ z. Event-of z (reply.Close a) (Close (c .in-Close .feed) (told a))) (sym (c .in-Close .is)) (a, refl, refl),
+        (c .close .ensures .answer, λ i. record { joiner = c .close .ensures .state i; slots = c .args .shelf .now .slots .now }),
+      );
       kept = c .close .ensures .kept;
       lent = refl;
     }
@@ -40,8 +46,11 @@ returns-in-Renew g c =
     let a = c .bulletin .result in
     let b = c .in-Renew .bulletin in
     record {
-      called = (Renew b (told a), subst (λ z. Event-of z (reply.Renew a) (Renew b (told a))) (sym (c .in-Renew .is)) (a, refl, refl),
-        (c .bulletin .ensures .answer, λ i. record { joiner = c .bulletin .ensures .state i; slots = c .args .shelf .now .slots .now }));
+      called = (
+        Renew b (told a),
+        subst (λ z. Event-of z (reply.Renew a) (Renew b (told a))) (sym (c .in-Renew .is)) (a, refl, refl),
+        (c .bulletin .ensures .answer, λ i. record { joiner = c .bulletin .ensures .state i; slots = c .args .shelf .now .slots .now }),
+      );
       kept = c .bulletin .ensures .kept;
       lent = refl;
     }

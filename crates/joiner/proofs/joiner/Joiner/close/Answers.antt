@@ -43,10 +43,9 @@ ghost-self g c =
     let xs = feedsOf (j .feeds) in
     let q = queueOf (j .queue) in
     let o = close-done (stateOf j) (c .args .feed) (c .in-Some .state) (c .in-Some .ensures tt) (sym (ap told (c .in-Continue-change .was tt)) ∙ c .change .ensures .answer) in
-    let row : feedsOf (c .store .last .self) ≡ set xs (c .args .feed) _ = c .store .ensures ∙ ap (set xs (c .args .feed)) (c .change .ensures .after) in
-    (
+    let row : feedsOf (c .store .last .self) ≡ set xs (c .args .feed) _ = c .store .ensures ∙ ap (set xs (c .args .feed)) (c .change .ensures .after) in (
       subst (λ (ys : List FeedState). Counted ys (length q)) (sym row) (same-counted xs q (c .args .feed) (c .in-Some .state) _ (c .in-Some .ensures tt) (o .1) (j .counted)),
-      (subst (λ (ys : List FeedState). Queued ys q) (sym row) (same-queued xs q (c .args .feed) (c .in-Some .state) _ (c .in-Some .ensures tt) (o .1) (j .queued)), tt)
+      (subst (λ (ys : List FeedState). Queued ys q) (sym row) (same-queued xs q (c .args .feed) (c .in-Some .state) _ (c .in-Some .ensures tt) (o .1) (j .queued)), tt),
     )
 
 pub returns : need.returns

@@ -67,10 +67,9 @@ ghost-self g c =
     let o = put-accepted (g .B·Bank .meaning (j .bank)) s k (c .args .feed) (c .args .stamp) room (c .tick-of .result) (c .tick-of .ensures) (c .in-Some .state) (c .in-Some .ensures tt) (sym (ap told (c .in-Continue-change .was tt)) ∙ c .change .ensures .answer) in
     let row : feedsOf (c .store .last .self) ≡ set (feedsOf (j .feeds)) (c .args .feed) _ = c .store .ensures ∙ ap (set (feedsOf (j .feeds)) (c .args .feed)) (c .change .ensures .after ∙ o .holds) in
     let more = put-counted (feedsOf (j .feeds)) (queueOf (j .queue)) (c .args .feed) (o .tick) (there .0) (there .1 ∙ o .was-idle) (j .counted) in
-    let queued = put-queued (feedsOf (j .feeds)) (queueOf (j .queue)) (c .args .feed) (o .tick) (there .0) (there .1 ∙ o .was-idle) (j .queued) in
-    (
+    let queued = put-queued (feedsOf (j .feeds)) (queueOf (j .queue)) (c .args .feed) (o .tick) (there .0) (there .1 ∙ o .was-idle) (j .queued) in (
       subst (λ (q : List ℕ). Counted (feedsOf (c .store .last .self)) (length q)) (sym (c .push .ensures)) (subst (λ (xs : List FeedState). Counted xs (length (queueOf (j .queue) ++ c .args .feed ∷ []))) (sym row) more),
-      (subst (λ (q : List ℕ). Queued (feedsOf (c .store .last .self)) q) (sym (c .push .ensures)) (subst (λ (xs : List FeedState). Queued xs (queueOf (j .queue) ++ c .args .feed ∷ [])) (sym row) queued), tt)
+      (subst (λ (q : List ℕ). Queued (feedsOf (c .store .last .self)) q) (sym (c .push .ensures)) (subst (λ (xs : List FeedState). Queued xs (queueOf (j .queue) ++ c .args .feed ∷ [])) (sym row) queued), tt),
     )
 
 pub index-shelf-feed : need.index-shelf-feed
@@ -100,7 +99,7 @@ returns g c =
     record {
       answer = ap Ok tick ∙ sym (o .answer);
       desk = put-desk s (c .args .shelf .now .slots .now) (c .args .feed) (c .held-tick-tick .result) (c .held-tick-tick .result) (c .args .body) (feedsOf (c .store .last .self)) (queueOf (c .push .last .self))
-        (c .store .ensures ∙ ap (set (feedsOf (j .feeds)) (c .args .feed)) (c .change .ensures .after ∙ o .holds ∙ ap Holding (sym tick))) (c .push .ensures) refl;
+          (c .store .ensures ∙ ap (set (feedsOf (j .feeds)) (c .args .feed)) (c .change .ensures .after ∙ o .holds ∙ ap Holding (sym tick))) (c .push .ensures) refl;
       kept = refl;
       lent = refl;
     }

@@ -31,10 +31,9 @@ ghost-self g c =
     let v = c .in-Some-state .state in
     let row : feedsOf (c .store .last .self) ≡ set xs f (released v) = c .store .ensures ∙ ap (set xs f) (c .change .ensures .after ∙ released-as v) in
     let counted = take-counted xs q f (c .in-Some .ensures tt) (j .queued) v (c .in-Some-state .ensures tt) (j .counted) in
-    let queued = take-queued xs q f (c .in-Some .ensures tt) (j .queued) v (c .in-Some-state .ensures tt) in
-    (
+    let queued = take-queued xs q f (c .in-Some .ensures tt) (j .queued) v (c .in-Some-state .ensures tt) in (
       subst (λ (z : List ℕ). Counted (feedsOf (c .store .last .self)) (length z)) (sym (c .pop .ensures)) (subst (λ (ys : List FeedState). Counted ys (length (rest q))) (sym row) counted),
-      (subst (λ (z : List ℕ). Queued (feedsOf (c .store .last .self)) z) (sym (c .pop .ensures)) (subst (λ (ys : List FeedState). Queued ys (rest q)) (sym row) queued), tt)
+      (subst (λ (z : List ℕ). Queued (feedsOf (c .store .last .self)) z) (sym (c .pop .ensures)) (subst (λ (ys : List FeedState). Queued ys (rest q)) (sym row) queued), tt),
     )
 
 pub index-shelf-feed : need.index-shelf-feed

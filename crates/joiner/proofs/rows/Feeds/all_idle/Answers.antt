@@ -15,10 +15,10 @@ ghost-result c =
     let n = c .args .count in
     let row = take-replicate n 64 Idle (c .pre) in
     let mask : c .if-count-lt64 .idle ≡ 2 ^ n - 1 =
-      elim (c .if-count-lt64 .came) [
-          then-count-lt64 w ↦ w .idle-is ∙ ap (λ (x : ℕ). x - 1) (one-shl n 64 (w .if-count-lt64 .taken))
-        | else-count-lt64 w ↦ let e : n ≡ 64 = omega (arith, w .if-count-lt64 .left) in w .idle-is ∙ ap (λ (x : ℕ). 2 ^ x - 1) (sym e)
-        ] in
+    elim (c .if-count-lt64 .came) [
+      | then-count-lt64 w ↦ w .idle-is ∙ ap (λ (x : ℕ). x - 1) (one-shl n 64 (w .if-count-lt64 .taken))
+      | else-count-lt64 w ↦ let e : n ≡ 64 = omega (arith, w .if-count-lt64 .left) in w .idle-is ∙ ap (λ (x : ℕ). 2 ^ x - 1) (sym e)
+    ] in
     (refl, (c .pre, (mask ∙ sym (all-masked n) ∙ ap idle-mask (sym row), tt)))
 
 pub returns : need.returns

@@ -8,10 +8,9 @@ use Rattle.joiner.proofs.rows.Feeds.freed.Needs as need
 
 pub ghost-result : need.ghost-result
 ghost-result c =
-    let j = c .args .self .now in
-    (
+    let j = c .args .self .now in (
       simp length-set (j .sized),
-      (j .fits, (freed-mask (j .states) (j .count) (c .args .feed) (c .args .state) (j .sized) (j .fits) (c .pre .inside) (j .idle) _ (c .pre .idle) (j .tied) (one-shl (c .args .feed) 64 (omega (arith, length-take (j .count) (j .states)))), tt))
+      (j .fits, (freed-mask (j .states) (j .count) (c .args .feed) (c .args .state) (j .sized) (j .fits) (c .pre .inside) (j .idle) _ (c .pre .idle) (j .tied) (one-shl (c .args .feed) 64 (omega (arith, length-take (j .count) (j .states)))), tt)),
     )
 
 pub returns : need.returns

@@ -125,14 +125,22 @@ fn entry(day: u32, offset: u16) -> Entry {
     Entry { day, offset }
 }
 
-// Offsets at the ends of their range, which the starting table is far from: eleven deletions in a row.
+// Offsets at the ends of their range, which the starting table is far from: ten deletions in a row.
 #[test]
 fn an_offset_cannot_fall_below_zero() -> Result<(), Fail> {
-    let days = [730, 761, 790, 821, 851, 882, 912, 943, 974, 1004, 1035];
-    let mut entries = [entry(0, 0); 11];
-    for place in 0..11 {
-        entries[place] = entry(days[place], 10u16.saturating_sub((place & 0xff) as u16));
-    }
+    let entries = [
+        entry(730, 10),
+        entry(761, 9),
+        entry(790, 8),
+        entry(821, 7),
+        entry(851, 6),
+        entry(882, 5),
+        entry(912, 4),
+        entry(943, 3),
+        entry(974, 2),
+        entry(1004, 1),
+        entry(1035, 0),
+    ];
     let Some(mut table) = LeapTable::from_parts(&entries, 1040) else {
         return Err(Fail::new("not sound"));
     };

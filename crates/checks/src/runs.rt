@@ -1,7 +1,10 @@
 // Whole runs, from bytes to bytes.
 use session::run::INPUT_LIMIT;
 use session::run::answer_lines;
+use standard::bank::PosixForm;
 use standard::bank::STANDARD_BANK;
+use standard::bank::ScaleBank;
+use standard::bank::TaiRung;
 use std::test::*;
 
 #[test]

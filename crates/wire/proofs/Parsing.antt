@@ -1,12 +1,12 @@
 -- The decoder undoes the encoding, and what it decodes is encoded as it stood.
-use Prim.Native.Nat.{ℕ, zero, suc, _+_, _*_, _≤_, _<_}
+use Prim.Native.Nat.{ℕ, zero, suc, _+_, _*_, _^_, _≤_, _<_}
 use mathlib.Core.Path.{_≡_, refl, sym, ap, _∙_, subst}
 use mathlib.Core.Bool.{Bool, true, false, cond}
 use mathlib.Core.List.{List, [], _∷_, _++_}
 use mathlib.Core.Logic.{_⊎_, inl, inr}
 use native.Mathlib.Omega.{arith}
 use lib.Dec.{eqb}
-use lib.ListN.{length, getD}
+use lib.ListN.{length, getD, drop, length-drop}
 use Rattle.std.proofs.shelf.Tests.{cases-bool, eqb-true}
 use Rattle.std.specs.declared.option.Option.{Option}
 use Rattle.std.specs.declared.option.Option.the-variants.{Some, None}
@@ -19,7 +19,7 @@ use Rattle.calls.specs.declared.event.LicenceEvent.{LicenceEvent}
 use Rattle.calls.specs.Event.{action-of, action-code}
 use Rattle.wire.specs.Bytes.{big-endian, hexed, Bytes}
 use Rattle.wire.specs.Frame.{frame-bytes, frame-line, event-bytes, Fits-frame}
-use Rattle.wire.specs.Decoder.{pair-at, quad-at, eight-at, put-of, if-long, call-of, parsed}
+use Rattle.wire.specs.Decoder.{pair-at, quad-at, eight-at, event-by, event-of, put-by, put-of, if-long, call-of, parsed}
 use Rattle.wire.proofs.Bigs.{pair-back, quad-back, eight-back, pair-there, quad-there, eight-there, bytes-big}
 use Rattle.wire.proofs.Hexes.{bytes-at, bytes-append, hexed-one}
 
@@ -28,19 +28,26 @@ action-there Taken = refl
 action-there GivenBack = refl
 action-there Denied = refl
 
--- calls with equal fields are equal
-same-put : (feed : ℕ) (a : Action) (h l s t h′ l′ s′ t′ : ℕ) → h ≡ h′ → l ≡ l′ → s ≡ s′ → t ≡ t′ → _≡_ {A = Option (Call LicenceEvent)} (Some (Put feed (h, l) (record { action = a; seat = s; tool = t }))) (Some (Put feed (h′, l′) (record { action = a; seat = s′; tool = t′ })))
-same-put feed a h l s t h′ l′ s′ t′ p q r u = cc
+-- events and calls with equal fields are equal
+same-event : (a : Action) (s t s′ t′ : ℕ) → s ≡ s′ → t ≡ t′ → _≡_ {A = Option LicenceEvent} (Some (record { action = a; seat = s; tool = t })) (Some (record { action = a; seat = s′; tool = t′ }))
+same-event a s t s′ t′ p q = cc
+
+pub same-put : (feed h l h′ l′ : ℕ) (e : LicenceEvent) → h ≡ h′ → l ≡ l′ → _≡_ {A = Option (Call LicenceEvent)} (Some (Put feed (h, l) e)) (Some (Put feed (h′, l′) e))
+same-put feed h l h′ l′ e p q = cc
 
 same-renewal : (c d x d′ x′ : ℕ) → d ≡ d′ → x ≡ x′ → _≡_ {A = Option (Call LicenceEvent)} (Some (Renew (record { change = c; day = d; expiry = x }))) (Some (Renew (record { change = c; day = d′; expiry = x′ })))
 same-renewal c d x d′ x′ p q = cc
 
+event-there : (e : LicenceEvent) → e .seat < 2 ^ 32 → e .tool < 2 ^ 16 → event-of (event-bytes e) ≡ Some e
+event-there e h k =
+    ap (event-by (event-bytes e)) (action-there (e .action))
+    ∙ same-event (e .action) (quad-at (big-endian 4 (e .seat)) 0) (pair-at (big-endian 2 (e .tool)) 0) (e .seat) (e .tool) (quad-there (e .seat) h) (pair-there (e .tool) k)
+
 pub parses-back : (c : Call LicenceEvent) → Fits-frame c → parsed (frame-bytes c) ≡ Some c
 parses-back (Put feed stamp event) h =
     let rest : List ℕ = feed ∷ (big-endian 8 (stamp .0) ++ (big-endian 8 (stamp .1) ++ event-bytes event)) in
-    ap (put-of rest) (action-there (event .action))
-    ∙ same-put feed (event .action) (eight-at (big-endian 8 (stamp .0)) 0) (eight-at (big-endian 8 (stamp .1)) 0) (quad-at (big-endian 4 (event .seat)) 0) (pair-at (big-endian 2 (event .tool)) 0) (stamp .0) (stamp .1) (event .seat) (event .tool)
-    (eight-there (stamp .0) (h .1)) (eight-there (stamp .1) (h .2)) (quad-there (event .seat) (h .3)) (pair-there (event .tool) (h .4))
+    ap (put-by rest) (event-there event (h .3) (h .4))
+    ∙ same-put feed (eight-at (big-endian 8 (stamp .0)) 0) (eight-at (big-endian 8 (stamp .1)) 0) (stamp .0) (stamp .1) event (eight-there (stamp .0) (h .1)) (eight-there (stamp .1) (h .2))
 parses-back (Close feed) h = refl
 parses-back Take h = refl
 parses-back (Renew b) h =
@@ -61,6 +68,22 @@ spelled zero (x ∷ xs) h = let z : ⊥ = omega arith in absurd z
 spelled (suc n) [] h = let z : ⊥ = omega arith in absurd z
 spelled (suc n) (x ∷ xs) h = ap (λ (ys : List ℕ). x ∷ ys) (behind n 0 x xs ∙ spelled n xs (omega arith))
 
+-- and what is left behind them
+spelled-with : (n : ℕ) (xs : List ℕ) → n ≤ length xs → from-on n 0 xs ++ drop n xs ≡ xs
+spelled-with zero xs h = refl
+spelled-with (suc n) [] h = let z : ⊥ = omega arith in absurd z
+spelled-with (suc n) (x ∷ xs) h = ap (λ (ys : List ℕ). x ∷ (ys ++ drop n xs)) (behind n 0 x xs) ∙ ap (λ (ys : List ℕ). x ∷ ys) (spelled-with n xs (omega arith))
+
+bytes-drop : (n : ℕ) (xs : List ℕ) → Bytes xs → Bytes (drop n xs)
+bytes-drop zero xs b = b
+bytes-drop (suc n) [] b = b
+bytes-drop (suc n) (x ∷ xs) b = bytes-drop n xs (b .1)
+
+-- a test that was passed on the way to an answer
+passed : {A : Type 0} (b : Bool) (o : Option A) (c : A) → cond b o None ≡ Some c → (b ≡ true) × (o ≡ Some c)
+passed true o c e = (refl, e)
+passed false o c e = let z : _≡_ {A = ℕ} 0 1 = cc in absurd (omega arith)
+
 action-back : (n : ℕ) (a : Action) → action-of n ≡ Some a → action-code a ≡ n
 action-back n a e = elim (cases-bool (eqb n 1)) [
   | inl t ↦ let f = rw t at e in let s : Taken ≡ a = cc in ap action-code (sym s) ∙ sym (eqb-true n 1 t)
@@ -73,23 +96,34 @@ action-back n a e = elim (cases-bool (eqb n 1)) [
   ]
 ]
 
+same-bytes : (x x′ : ℕ) (m n m′ n′ : List ℕ) → x ≡ x′ → m ≡ m′ → n ≡ n′ → x ∷ (m ++ n) ≡ x′ ∷ (m′ ++ n′)
+same-bytes x x′ m n m′ n′ p q r = cc
+
+event-back : (xs : List ℕ) → Bytes xs → length xs ≡ 7 → (e : LicenceEvent) (o : Option Action) → action-of (getD xs 0 0) ≡ o → event-by xs o ≡ Some e → event-bytes e ≡ xs
+event-back xs bytes h e None s q = let z : _≡_ {A = ℕ} 0 1 = cc in absurd (omega arith)
+event-back xs bytes h e (Some a) s q =
+    let same : e ≡ record { action = a; seat = quad-at xs 1; tool = pair-at xs 5 } = cc in
+    ap event-bytes same
+    ∙ same-bytes (action-code a) (getD xs 0 0) (big-endian 4 (quad-at xs 1)) (big-endian 2 (pair-at xs 5)) (from-on 4 1 xs) (from-on 2 5 xs)
+    (action-back (getD xs 0 0) a s)
+    (quad-back (getD xs 1 0) (getD xs 2 0) (getD xs 3 0) (getD xs 4 0) (bytes-at xs bytes 1) (bytes-at xs bytes 2) (bytes-at xs bytes 3) (bytes-at xs bytes 4))
+    (pair-back (getD xs 5 0) (getD xs 6 0) (bytes-at xs bytes 5) (bytes-at xs bytes 6))
+    ∙ spelled 7 xs h
+
 module _ (xs : List ℕ) (bytes : Bytes xs) where
   at : (k : ℕ) → getD xs k 0 < 256
   at k = bytes-at xs bytes k
 
-  same-parts : (p x x′ : ℕ) (k l m n k′ l′ m′ n′ : List ℕ) → k ≡ k′ → l ≡ l′ → x ≡ x′ → m ≡ m′ → n ≡ n′ → p ∷ (k ++ (l ++ (x ∷ (m ++ n)))) ≡ p ∷ (k′ ++ (l′ ++ (x′ ∷ (m′ ++ n′))))
-  same-parts p x x′ k l m n k′ l′ m′ n′ a b c d e = cc
+  same-parts : (p : ℕ) (k l m k′ l′ m′ : List ℕ) → k ≡ k′ → l ≡ l′ → m ≡ m′ → p ∷ (k ++ (l ++ m)) ≡ p ∷ (k′ ++ (l′ ++ m′))
+  same-parts p k l m k′ l′ m′ a b c = cc
 
-  put-back : length xs ≡ 24 → (a : Action) → action-code a ≡ getD xs 17 0 → frame-bytes (Put (getD xs 0 0) (eight-at xs 1, eight-at xs 9) (record { action = a; seat = quad-at xs 18; tool = pair-at xs 22 })) ≡ 1 ∷ xs
-  put-back h a e = ap (λ (ys : List ℕ). 1 ∷ ys) (same-parts (getD xs 0 0) (action-code a) (getD xs 17 0)
-      (big-endian 8 (eight-at xs 1)) (big-endian 8 (eight-at xs 9)) (big-endian 4 (quad-at xs 18)) (big-endian 2 (pair-at xs 22))
-      (from-on 8 1 xs) (from-on 8 9 xs) (from-on 4 18 xs) (from-on 2 22 xs)
+  put-back : 17 ≤ length xs → (e : LicenceEvent) → event-bytes e ≡ drop 17 xs → frame-bytes (Put (getD xs 0 0) (eight-at xs 1, eight-at xs 9) e) ≡ 1 ∷ xs
+  put-back h e s = ap (λ (ys : List ℕ). 1 ∷ ys) (same-parts (getD xs 0 0)
+      (big-endian 8 (eight-at xs 1)) (big-endian 8 (eight-at xs 9)) (event-bytes e) (from-on 8 1 xs) (from-on 8 9 xs) (drop 17 xs)
       (eight-back (getD xs 1 0) (getD xs 2 0) (getD xs 3 0) (getD xs 4 0) (getD xs 5 0) (getD xs 6 0) (getD xs 7 0) (getD xs 8 0) (at 1, (at 2, (at 3, (at 4, (at 5, (at 6, (at 7, (at 8, tt)))))))))
       (eight-back (getD xs 9 0) (getD xs 10 0) (getD xs 11 0) (getD xs 12 0) (getD xs 13 0) (getD xs 14 0) (getD xs 15 0) (getD xs 16 0) (at 9, (at 10, (at 11, (at 12, (at 13, (at 14, (at 15, (at 16, tt)))))))))
-      e
-      (quad-back (getD xs 18 0) (getD xs 19 0) (getD xs 20 0) (getD xs 21 0) (at 18) (at 19) (at 20) (at 21))
-      (pair-back (getD xs 22 0) (getD xs 23 0) (at 22) (at 23))
-      ∙ spelled 24 xs h)
+      s
+      ∙ spelled-with 17 xs h)
 
   renewal-back : length xs ≡ 9 → frame-bytes (Renew (record { change = getD xs 0 0; day = quad-at xs 1; expiry = quad-at xs 5 })) ≡ 4 ∷ xs
   renewal-back h =
@@ -99,19 +133,18 @@ module _ (xs : List ℕ) (bytes : Bytes xs) where
       ∙ ap (λ (ys : List ℕ). 4 ∷ (getD xs 0 0 ∷ (from-on 4 1 xs ++ ys))) x
       ∙ ap (λ (ys : List ℕ). 4 ∷ ys) (spelled 9 xs h)
 
-  -- a test that was passed on the way to an answer
-  passed : (b : Bool) (o : Option (Call LicenceEvent)) (c : Call LicenceEvent) → cond b o None ≡ Some c → (b ≡ true) × (o ≡ Some c)
-  passed true o c e = (refl, e)
-  passed false o c e = let z : _≡_ {A = ℕ} 0 1 = cc in absurd (omega arith)
-
-  put-parsed : (c : Call LicenceEvent) → length xs ≡ 24 → (o : Option Action) → action-of (getD xs 17 0) ≡ o → put-of xs o ≡ Some c → frame-bytes c ≡ 1 ∷ xs
-  put-parsed c h (Some a) s e = let same : c ≡ Put (getD xs 0 0) (eight-at xs 1, eight-at xs 9) (record { action = a; seat = quad-at xs 18; tool = pair-at xs 22 }) = cc in ap frame-bytes same ∙ put-back h a (action-back (getD xs 17 0) a s)
-  put-parsed c h None s e = let z : _≡_ {A = ℕ} 0 1 = cc in absurd (omega arith)
+  put-parsed : (c : Call LicenceEvent) (o : Option LicenceEvent) → event-of (drop 17 xs) ≡ o → put-by xs o ≡ Some c → frame-bytes c ≡ 1 ∷ xs
+  put-parsed c None s q = let z : _≡_ {A = ℕ} 0 1 = cc in absurd (omega arith)
+  put-parsed c (Some e) s q =
+      let ys : List ℕ = drop 17 xs in
+      let p = passed (eqb (length ys) 7) (event-by ys (action-of (getD ys 0 0))) e s in
+      let l : length ys ≡ 7 = eqb-true (length ys) 7 (p .0) in
+      let same : c ≡ Put (getD xs 0 0) (eight-at xs 1, eight-at xs 9) e = cc in
+      ap frame-bytes same ∙ put-back (omega (arith, length-drop 17 xs, l)) e (event-back ys (bytes-drop 17 xs bytes) l e (action-of (getD ys 0 0)) refl (p .1))
 
   pub kind-parsed : (kind : ℕ) (c : Call LicenceEvent) → call-of kind xs ≡ Some c → frame-bytes c ≡ kind ∷ xs
   kind-parsed kind c e = elim (cases-bool (eqb kind 1)) [
-    | inl t ↦ let p = passed (eqb (length xs) 24) (put-of xs (action-of (getD xs 17 0))) c (rw t at e) in
-        put-parsed c (eqb-true (length xs) 24 (p .0)) (action-of (getD xs 17 0)) refl (p .1) ∙ ap (λ (k : ℕ). k ∷ xs) (sym (eqb-true kind 1 t))
+    | inl t ↦ put-parsed c (event-of (drop 17 xs)) refl (rw t at e) ∙ ap (λ (k : ℕ). k ∷ xs) (sym (eqb-true kind 1 t))
     | inr t ↦ let e1 = rw t at e in elim (cases-bool (eqb kind 2)) [
       | inl u ↦ let p = passed (eqb (length xs) 1) (Some (Close (getD xs 0 0))) c (rw u at e1) in
           let same : c ≡ Close (getD xs 0 0) = cc in

@@ -2,7 +2,7 @@
 use Prim.Native.Nat.{ℕ, _+_, _*_}
 use mathlib.Core.Bool.{cond}
 use mathlib.Core.List.{List, [], _∷_}
-use lib.ListN.{getD, length}
+use lib.ListN.{getD, length, drop}
 use lib.Dec.{eqb}
 use Rattle.std.specs.declared.option.Option.{Option}
 use Rattle.std.specs.declared.option.Option.the-variants.{Some, None}
@@ -22,9 +22,21 @@ quad-at xs i = getD xs i 0 * 16777216 + getD xs (i + 1) 0 * 65536 + getD xs (i +
 abbrev pub eight-at : List ℕ → ℕ → ℕ
 eight-at xs i = quad-at xs i * 4294967296 + quad-at xs (i + 4)
 
-abbrev pub put-of : List ℕ → Option Action → Option (Call LicenceEvent)
-put-of xs (Some a) = Some (Put (getD xs 0 0) (eight-at xs 1, eight-at xs 9) (record { action = a; seat = quad-at xs 18; tool = pair-at xs 22 }))
-put-of xs None = None
+-- seven bytes, the first of them an action's code
+abbrev pub event-by : List ℕ → Option Action → Option LicenceEvent
+event-by xs (Some a) = Some (record { action = a; seat = quad-at xs 1; tool = pair-at xs 5 })
+event-by xs None = None
+
+abbrev pub event-of : List ℕ → Option LicenceEvent
+event-of xs = cond (eqb (length xs) 7) (event-by xs (action-of (getD xs 0 0))) None
+
+-- the feed, eight bytes of each half of the stamp, then the event
+abbrev pub put-by : List ℕ → Option LicenceEvent → Option (Call LicenceEvent)
+put-by xs (Some e) = Some (Put (getD xs 0 0) (eight-at xs 1, eight-at xs 9) e)
+put-by xs None = None
+
+abbrev pub put-of : List ℕ → Option (Call LicenceEvent)
+put-of xs = put-by xs (event-of (drop 17 xs))
 
 abbrev pub if-long : ℕ → List ℕ → Option (Call LicenceEvent) → Option (Call LicenceEvent)
 if-long n xs c = cond (eqb (length xs) n) c None
@@ -32,7 +44,7 @@ if-long n xs c = cond (eqb (length xs) n) c None
 -- by the kind and what follows it
 abbrev pub call-of : ℕ → List ℕ → Option (Call LicenceEvent)
 call-of kind xs =
-    cond (eqb kind 1) (if-long 24 xs (put-of xs (action-of (getD xs 17 0))))
+    cond (eqb kind 1) (put-of xs)
     (cond (eqb kind 2) (if-long 1 xs (Some (Close (getD xs 0 0))))
     (cond (eqb kind 3) (if-long 0 xs (Some Take))
     (cond (eqb kind 4) (if-long 9 xs (Some (Renew (record { change = getD xs 0 0; day = quad-at xs 1; expiry = quad-at xs 5 })))) None)))

@@ -1,4 +1,6 @@
 // Text written: answer lines, and frames for whoever sends them.
+#![tactic(auto)]
+
 pub mod answer;
 pub mod encode;
 mod hex;

@@ -1,4 +1,6 @@
 // What is asked of a joiner and what it answers, as values, and the bodies that records carry.
+#![tactic(auto)]
+
 pub mod call;
 pub mod event;
 pub mod place;

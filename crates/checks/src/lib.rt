@@ -1,4 +1,6 @@
 // Tests of the crates below, with expected values from outside: the system's own lists, published dates, arithmetic by hand.
+#![tactic(auto)]
+
 #[cfg(test)]
 mod dates;
 #[cfg(test)]

@@ -1,4 +1,6 @@
 // Tests of clocks, with expected values from outside: published dates and week numbers, and arithmetic by hand.
+#![tactic(auto)]
+
 #[cfg(test)]
 mod answers;
 #[cfg(test)]

@@ -1,4 +1,6 @@
 // What clocks mean and which laws they keep: the traits that carry both, and the proofs. The clocks' code stands in the crates above.
+#![tactic(auto)]
+
 pub mod bank;
 pub mod fault;
 pub mod form;

@@ -1,4 +1,6 @@
 // The forms that need no calendar: POSIX seconds, NTP and GPS weeks.
+#![tactic(auto)]
+
 pub mod gps;
 pub mod ntp;
 pub mod posix;

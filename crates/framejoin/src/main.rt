@@ -1,4 +1,6 @@
 // framejoin: reads frames, writes answers.
+#![tactic(auto)]
+
 use session::run::{INPUT_LIMIT, answer_lines};
 use standard::bank::STANDARD_BANK;
 use std::io::{Read, Write};

@@ -1,4 +1,6 @@
 // The joiner: it keeps the records of up to 64 feeds in one order.
+#![tactic(auto)]
+
 pub mod bulletin;
 pub mod call;
 pub mod close;

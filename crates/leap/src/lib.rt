@@ -1,4 +1,6 @@
 // The leap table: when seconds were inserted into UTC or deleted from it, and how a bulletin carries the table on.
+#![tactic(auto)]
+
 pub mod bulletin;
 pub mod entry;
 mod limits;

@@ -1,4 +1,6 @@
 // A short story at a seat desk: two feeds, the licence service and a gateway, put what becomes of a seat, and the desk takes it in one order.
+#![tactic(auto)]
+
 use banks::beside::Beside;
 use banks::scale::Scale;
 use calls::call::Handed;

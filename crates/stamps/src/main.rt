@@ -1,4 +1,6 @@
 // stamps: prints stamps of three forms as they are read and shown, and what a pile of three rungs answers.
+#![tactic(auto)]
+
 use banks::scale::Scale;
 use clocks::form::Form;
 use clocks::rung::Rung;

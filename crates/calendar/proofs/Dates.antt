@@ -1,7 +1,7 @@
 -- A day number belongs to one date, and rises with the dates; the first days of months are 28 days apart.
-use Rattle.std.proofs.Common.{◌≡◌, ℕ, zero, suc, ◌+◌, ◌-◌, ◌*◌, ◌/◌, ◌%◌, ◌<◌, ◌≤◌, true, false, ◌&&◌, eqb, leb, ◌⊎◌, Some, None, sym, refl, ap, ◌∙◌, subst, inl, inr, add-zero, arith}
+use Rattle.std.proofs.Common.{◌≡◌, ℕ, zero, suc, ◌+◌, ◌-◌, ◌*◌, ◌/◌, ◌%◌, ◌<◌, ◌≤◌, true, false, ◌&&◌, eqb, leb, ◌⊎◌, None, sym, refl, ap, ◌∙◌, inl, inr, add-zero, arith}
 use Rattle.std.proofs.lemmas.Bool.{cases_order, cases_lt, lt-ltb, le-ltb, le-leb, lt-leb, leb-true, eqb-true, and_parts}
-use Rattle.calendar.specs.Calendar.{leap, month_days, months_days, day_number, ValidMonth, ValidDate, FirstOfMonth, length_of, take_months, date_of, fields_at, Fields, month_first}
+use Rattle.calendar.specs.Calendar.{leap, month_days, months_days, day_number, ValidMonth, ValidDate, FirstOfMonth, length_of, take_months, date_of, month_first}
 use Rattle.calendar.specs.Dates.{Before, Apart, StandsAlone, wrong_field}
 use Rattle.std.proofs.lemmas.Bool.Decides.{nat_tests}
 use Rattle.calendar.proofs.Months.{month_step, month_at, month_ends, one_month, least_month, end_of_2199}

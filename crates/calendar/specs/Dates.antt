@@ -1,5 +1,5 @@
 -- Dates in their order, and the field of a date that is wrong.
-use Rattle.std.specs.Prelude.{◌≡◌, ℕ, ◌+◌, ◌<◌, ◌≤◌, Bool, true, false, cond, ◌&&◌, ◌⊎◌, Some, None, Option, nat_le}
+use Rattle.std.specs.Prelude.{◌≡◌, ℕ, ◌+◌, ◌<◌, ◌≤◌, Bool, cond, ◌&&◌, ◌⊎◌, Some, None, Option, nat_le}
 use Rattle.calendar.specs.declared.field.DateField.{DateField}
 use Rattle.calendar.specs.declared.field.DateField.TheVariants.{Year, Month, Day}
 use Rattle.calendar.specs.Calendar.{first_year, last_year, month_days, day_number, ValidDate, FirstOfMonth}

@@ -1,6 +1,6 @@
-use Rattle.std.proofs.Common.{◌≡◌, ℕ, true, false, eqb, sym, ap, ◌∙◌, subst, arith}
+use Rattle.std.proofs.Common.{◌≡◌, ℕ, sym, ap, ◌∙◌, arith}
 use Rattle.std.proofs.lemmas.Bool.{eqb-true, eq-eqb, false≢true}
-use Rattle.calendar.specs.Calendar.{day_number, FirstOfMonth}
+use Rattle.calendar.specs.Calendar.{day_number}
 use Rattle.calendar.proofs.Dates.{apart, last_day, first_valid, one_date, month_first_is, month_first_late}
 use Rattle.calendar.proofs.date.is_month_first.Goals as goal
 

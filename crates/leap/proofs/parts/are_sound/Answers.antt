@@ -35,7 +35,7 @@ loop-i-preserved c = one_more c.args.entries.now c.loop-i.i (omega arith) c.loop
 pub returns : goal.returns
 returns c =
     let es = c.args.entries.now in
-    let nonempty : length es ≡ 0 → ⊥ = eqb-false (length es) 0 (sym c.if-is-empty.ensures) in
+    let nonempty : length es ≡ 0 → ⊥ = eqb-false (length es) 0 (sym c.if-is_empty.ensures) in
     let some : 1 ≤ length es = omega arith in (
       λ h.
           sound_by es c.args.expiry

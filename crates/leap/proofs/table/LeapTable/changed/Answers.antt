@@ -5,8 +5,8 @@ use Rattle.leap.proofs.Saying.{table_sound, table_length}
 use Rattle.leap.proofs.Bulletins.{next_moves}
 use Rattle.leap.proofs.table.LeapTable.changed.Goals as goal
 
-pub with-entry-requires : goal.with-entry-requires
-with-entry-requires c =
+pub with_entry-requires : goal.with_entry-requires
+with_entry-requires c =
     let t = c.args.self.now in
     let n = table_length t in
     let s = table_sound t in

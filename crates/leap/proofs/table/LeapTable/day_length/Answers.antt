@@ -11,7 +11,7 @@ returns c =
     let s = table_sound c.args.self.now in
     let d = c.args.day in
     let x = s.expires in
-    let next : c.offset-on-next.result ≡ off t (d + 1) = c.offset-on-next.ensures.is ∙ off_cut t s (d + 1) c.saturating-add.result (2 ^ 32 - 1) (omega arith) c.saturating-add.ensures in
+    let next : c.offset_on-next.result ≡ off t (d + 1) = c.offset_on-next.ensures.is ∙ off_cut t s (d + 1) c.saturating_add.result (2 ^ 32 - 1) (omega arith) c.saturating_add.ensures in
     let here : c.offset_on.result ≡ off t d = c.offset_on.ensures.is in
-    let is : day_seconds + c.offset-on-next.result - c.offset_on.result ≡ len t d = omega arith in
+    let is : day_seconds + c.offset_on-next.result - c.offset_on.result ≡ len t d = omega arith in
     record { is = is; most = rw is (len_most t s d); least = rw is (len_least t s d) }

@@ -6,8 +6,8 @@ use Rattle.leap.specs.Held.{table_of}
 use Rattle.leap.proofs.Saying.{table_length}
 use Rattle.leap.proofs.table.LeapTable.entry.Goals as goal
 
-pub returns-then-place-entry-count : goal.returns-then-place-entry-count
-returns-then-place-entry-count c = sym (slice_get_past (table_of c.args.self.now).entries c.args.place (omega arith))
+pub returns-then-place-entry_count : goal.returns-then-place-entry_count
+returns-then-place-entry_count c = sym (slice_get_past (table_of c.args.self.now).entries c.args.place (omega arith))
 
 pub returns : goal.returns
 returns c =

@@ -16,19 +16,19 @@ whole hs es i e h = subst (λ (n : ℕ). take n hs ≡ take n es) e h ∙ take_a
 
 pub loop-i-preserved : goal.loop-i-preserved
 loop-i-preserved c =
-    let s = c.if-not-are-sound.ensures.0 refl in
+    let s = c.if-not-are_sound.ensures.0 refl in
     let room = s.room in
     (simp length-set c.loop-i.invariant.0, one_more c.loop-i.held c.args.entries.now c.loop-i.i (omega (arith, c.loop-i.invariant.0)) c.loop-i-test.true c.loop-i.invariant.1)
 
-pub invariant-of-result : goal.invariant-of-result
-invariant-of-result c =
-    let s = c.if-not-are-sound.ensures.0 refl in
+pub invariant_of-result : goal.invariant_of-result
+invariant_of-result c =
+    let s = c.if-not-are_sound.ensures.0 refl in
     let es = c.args.entries.now in
     let e = whole c.loop-i.held es c.loop-i.i (omega arith) c.loop-i.invariant.1 in
-    (c.loop-i.invariant.0, (s.some, (s.room, (rw e (sound_passes es c.args.expiry s), tt))))
+    record { sized = c.loop-i.invariant.0; low = s.some; high = s.room; keeps = rw e (sound_passes es c.args.expiry s) }
 
 pub returns : goal.returns
 returns c =
     let es = c.args.entries.now in
     let e = whole c.loop-i.held es c.loop-i.i (omega arith) c.loop-i.invariant.1 in
-    (c.if-not-are-sound.ensures.0 refl, ap (λ (xs : List Entry). table_from xs c.args.expiry) e)
+    (c.if-not-are_sound.ensures.0 refl, ap (λ (xs : List Entry). table_from xs c.args.expiry) e)

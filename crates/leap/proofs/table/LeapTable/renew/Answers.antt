@@ -6,11 +6,11 @@ use Rattle.leap.proofs.Saying.{table_sound}
 use Rattle.leap.proofs.Bulletins.{accepted_past}
 use Rattle.leap.proofs.table.LeapTable.renew.Goals as goal
 
-pub returns-in-err-table : goal.returns-in-err-table
-returns-in-err-table c =
+pub returns-in_err-table : goal.returns-in_err-table
+returns-in_err-table c =
     let t = table_of c.args.self.now in
-    let p = err_from_is_err_and c.from-residual.result c.from-residual.ensures.1 in
-    let e = c.in-err-table.ensures in
+    let p = err_from_is_err_and c.from_residual.result c.from_residual.ensures.1 in
+    let e = c.in_err-table.ensures in
     rw (p.1, p.2)
     (record {
       answer = sym e;
@@ -24,8 +24,8 @@ pub returns : goal.returns
 returns c =
     let t = table_of c.args.self.now in
     let b = c.args.bulletin in
-    let u = c.in-ok-table.table in
-    let e = c.in-ok-table.ensures in
+    let u = c.in_ok-table.table in
+    let e = c.in_ok-table.ensures in
     record {
       answer = sym e.0;
       after = e.1 ∙ sym (ap (after_answer t (renewed t b)) e.0);

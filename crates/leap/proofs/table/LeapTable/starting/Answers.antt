@@ -32,9 +32,14 @@ starting_passes = refl
 passes : (es : List Entry) → take 28 es ≡ starting_entries → sound (take 28 es) starting_expiry ≡ true
 passes es e = ap (λ (xs : List Entry). sound xs starting_expiry) e ∙ starting_passes
 
-pub invariant-of-result : goal.invariant-of-result
-invariant-of-result c =
-    (c.loop-i.invariant.0, (omega arith, (omega arith, (passes c.loop-i.entries (whole c.loop-i.entries c.loop-i.i (omega arith) c.loop-i.invariant.1), tt))))
+pub invariant_of-result : goal.invariant_of-result
+invariant_of-result c =
+    record {
+      sized = c.loop-i.invariant.0;
+      low = omega arith;
+      high = omega arith;
+      keeps = passes c.loop-i.entries (whole c.loop-i.entries c.loop-i.i (omega arith) c.loop-i.invariant.1);
+    }
 
 pub returns : goal.returns
 returns c =

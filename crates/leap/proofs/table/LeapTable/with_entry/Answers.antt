@@ -7,14 +7,19 @@ use Rattle.leap.proofs.Saying.{table_sound, table_length, sound_passes}
 use Rattle.leap.proofs.Bulletins.{appended_sound}
 use Rattle.leap.proofs.table.LeapTable.with_entry.Goals as goal
 
-pub invariant-of-result : goal.invariant-of-result
-invariant-of-result c =
+pub invariant_of-result : goal.invariant_of-result
+invariant_of-result c =
     let t = c.args.self.now in
     let room = c.requires.room in
     let n = table_length t in
     let h : t.count < length t.entries = omega arith in
     let s = appended_sound (table_of t) (table_sound t) c.args.entry c.args.expiry c.requires in
-    (simp length-set t.sized, (omega arith, (omega arith, (rw take_more_set (sound_passes (take t.count t.entries ++ c.args.entry ∷ []) c.args.expiry s), tt))))
+    record {
+      sized = simp length-set t.sized;
+      low = omega arith;
+      high = omega arith;
+      keeps = rw take_more_set (sound_passes (take t.count t.entries ++ c.args.entry ∷ []) c.args.expiry s);
+    }
 
 pub returns : goal.returns
 returns c =

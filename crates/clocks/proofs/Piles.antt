@@ -1,5 +1,5 @@
 -- A pile of lawful rungs is lawful.
-use Rattle.std.proofs.Common.{◌≡◌, ℕ, ◌+◌, ◌-◌, ◌≤◌, Ok, refl, ap, ◌∙◌, subst, le_trans, arith}
+use Rattle.std.proofs.Common.{◌≡◌, ℕ, ◌-◌, ◌≤◌, Ok, refl, ap, ◌∙◌, subst, le_trans, arith}
 use Rattle.leap.specs.Table.{Table}
 use Rattle.clocks.specs.Rungs.{RungMeaning, LawfulRung}
 use Rattle.clocks.specs.Piles.{lowered, then_do, pile}

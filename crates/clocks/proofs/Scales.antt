@@ -1,5 +1,5 @@
 -- A lawful form over a lawful rung is a lawful scale.
-use Rattle.std.proofs.Common.{◌≡◌, ℕ, ◌+◌, ◌-◌, ◌≤◌, Ok, refl, ap, ◌∙◌, subst, arith}
+use Rattle.std.proofs.Common.{◌≡◌, ℕ, ◌-◌, ◌≤◌, Ok, refl, ap, ◌∙◌, subst, arith}
 use Rattle.leap.specs.Table.{Table}
 use Rattle.clocks.specs.Rungs.{RungMeaning, LawfulRung}
 use Rattle.clocks.specs.Piles.{lowered, then_do}

@@ -1,11 +1,11 @@
 -- TAI, offsets and coarse clocks are lawful, whatever their settings.
-use Rattle.std.proofs.Common.{◌≡◌, ℕ, ◌+◌, ◌-◌, ◌*◌, ◌/◌, ◌%◌, ◌<◌, ◌≤◌, true, false, ltb, leb, Ok, sym, refl, ap, ◌∙◌, subst, mod-lt, mul_comm, mul-le-mul_left, le-div_iff_mul-le, arith}
+use Rattle.std.proofs.Common.{◌≡◌, ℕ, ◌+◌, ◌-◌, ◌*◌, ◌/◌, ◌%◌, ◌<◌, ◌≤◌, ltb, Ok, sym, refl, ap, ◌∙◌, subst, mod-lt, mul_comm, mul-le-mul_left, le-div_iff_mul-le, arith}
 use native.Mathlib.Nat.{div-add-mod, mul-mod_right}
 use Rattle.std.proofs.lemmas.Bool.{ltb-false, le-ltb}
 use Rattle.refusals.specs.declared.fault.Way.TheVariants.{Reading, Showing}
 use Rattle.leap.specs.Table.{Table}
-use Rattle.clocks.specs.Counts.{Count, count_end}
-use Rattle.clocks.specs.Rungs.{LawfulRung, refused_if}
+use Rattle.clocks.specs.Counts.{Count}
+use Rattle.clocks.specs.Rungs.{LawfulRung}
 use Rattle.clocks.specs.Simple.{tai, offset, coarse}
 use Rattle.clocks.proofs.Steps.{same, passed, passes, was_count, is_count, was_answered, is_answered}
 

@@ -1,15 +1,14 @@
 -- The forms POSIX, NTP and GPS are lawful, NTP and GPS with every pivot.
-use Rattle.std.proofs.Common.{◌≡◌, ℕ, ◌+◌, ◌-◌, ◌*◌, ◌/◌, ◌%◌, ◌<◌, ◌≤◌, Bool, true, false, ◌||◌, ltb, leb, Ok, Result, sym, refl, ap, ◌∙◌, subst, arith}
-use Rattle.std.proofs.lemmas.Bool.{leb-false, ltb-false, lt-leb, le-ltb, or_parts}
+use Rattle.std.proofs.Common.{◌≡◌, ℕ, ◌+◌, ◌-◌, ◌*◌, ◌/◌, ◌%◌, ◌<◌, ◌≤◌, ◌||◌, ltb, leb, Ok, sym, refl, ap, ◌∙◌, arith}
+use Rattle.std.proofs.lemmas.Bool.{leb-false, ltb-false, lt-leb, or_parts}
 use Rattle.refusals.specs.declared.fault.Cause.TheVariants.{Window}
-use Rattle.refusals.specs.declared.fault.Fault.{Fault}
 use Rattle.refusals.specs.declared.fault.Way.TheVariants.{Reading, Showing}
 use Rattle.leap.specs.Table.{Table}
-use Rattle.clocks.specs.Counts.{Count, count_end, second}
+use Rattle.clocks.specs.Counts.{Count, second}
 use Rattle.clocks.specs.Rungs.{refused_if}
 use Rattle.clocks.specs.Forms.{Stamp, LawfulForm}
 use Rattle.clocks.specs.Stamps.{fields_if, posix, TheOne, full, era, ntp_1970, last_ntp_pivot, up, ntp, gps_turn, week_millis, millisecond, week, last_gps_pivot, gps}
-use Rattle.clocks.proofs.Steps.{same, passed, passes, was_count, is_count}
+use Rattle.clocks.proofs.Steps.{same, passed, was_count}
 
 -- two fields below their limits
 fields_read : (x y hi lo : ℕ) (b : ℕ) {a : ℕ} → fields_if (leb x hi || leb y lo) (Ok b) ≡ Ok a → (hi < x) × (lo < y) × (b ≡ a)

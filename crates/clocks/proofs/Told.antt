@@ -1,5 +1,5 @@
 -- What is told of a pile follows from what is told of its parts.
-use Rattle.std.proofs.Common.{◌≡◌, ℕ, ◌+◌, ◌<◌, ◌≤◌, min, ◌⊎◌, inl, inr, arith}
+use Rattle.std.proofs.Common.{◌≡◌, ℕ, ◌+◌, min, inl, inr, arith}
 use Rattle.std.proofs.lemmas.Bool.{cases_lt}
 use Rattle.clocks.specs.Counts.{told_limit}
 use Rattle.clocks.specs.Rungs.{RungMeaning, LawfulRung}

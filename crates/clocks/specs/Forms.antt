@@ -1,5 +1,5 @@
 -- What a form means, and its laws. A form stands on top of rungs and ties stamps, pairs of plain numbers (hi, lo), to counts.
-use Rattle.std.specs.Prelude.{◌≡◌, ℕ, ◌+◌, ◌≤◌, Ok, Err, Result}
+use Rattle.std.specs.Prelude.{◌≡◌, ℕ, ◌+◌, ◌≤◌, Ok, Result}
 use Rattle.refusals.specs.declared.fault.Fault.{Fault}
 use Rattle.leap.specs.Table.{Table, Sound}
 use Rattle.leap.specs.Bulletin.{Renews}

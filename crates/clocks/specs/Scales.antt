@@ -1,5 +1,5 @@
 -- A scale: a form over a rung, read and shown by the pile's steps. It ties stamps to ticks, as a form ties them to counts, and keeps the same laws.
-use Rattle.std.specs.Prelude.{ℕ, ◌+◌, Ok}
+use Rattle.std.specs.Prelude.{◌+◌, Ok}
 use Rattle.clocks.specs.Rungs.{RungMeaning}
 use Rattle.clocks.specs.Piles.{lowered, then_do}
 use Rattle.clocks.specs.Forms.{FormMeaning}

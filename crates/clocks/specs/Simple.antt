@@ -1,7 +1,6 @@
 -- The rungs that need no leap table: TAI, offsets and coarse clocks.
-use Rattle.std.specs.Prelude.{ℕ, ◌+◌, ◌-◌, ◌%◌, cond, Ok, Err, Result, nat_lt}
+use Rattle.std.specs.Prelude.{ℕ, ◌+◌, ◌-◌, ◌%◌, Ok, nat_lt}
 use Rattle.refusals.specs.declared.fault.Cause.TheVariants.{NoCount, NotMultiple}
-use Rattle.refusals.specs.declared.fault.Fault.{Fault}
 use Rattle.refusals.specs.declared.fault.Way.TheVariants.{Reading, Showing}
 use Rattle.clocks.specs.Rungs.{RungMeaning, refused_if, counted, answered}
 

@@ -1,11 +1,11 @@
 -- The forms that need no calendar: POSIX seconds, NTP and GPS weeks.
-use Rattle.std.specs.Prelude.{◌≡◌, ℕ, ◌+◌, ◌-◌, ◌*◌, ◌/◌, ◌%◌, ◌<◌, ◌≤◌, Bool, cond, ◌||◌, Ok, Err, Result, nat_le, nat_lt}
+use Rattle.std.specs.Prelude.{◌≡◌, ℕ, ◌+◌, ◌-◌, ◌*◌, ◌/◌, ◌%◌, ◌<◌, ◌≤◌, Bool, ◌||◌, Ok, Result, nat_le, nat_lt}
 use Rattle.refusals.specs.declared.fault.Cause.TheVariants.{Field, Window}
 use Rattle.refusals.specs.declared.fault.Fault.{Fault}
 use Rattle.refusals.specs.declared.fault.Way.TheVariants.{Reading, Showing}
 use Rattle.clocks.specs.Counts.{second}
-use Rattle.clocks.specs.Rungs.{own_fault, refused_if, counted}
-use Rattle.clocks.specs.Forms.{Stamp, FormMeaning}
+use Rattle.clocks.specs.Rungs.{refused_if, counted}
+use Rattle.clocks.specs.Forms.{FormMeaning}
 
 -- a stamp with a wrong field is refused; a form that reads was handed no count, so 0 is told
 abbrev pub fields_if : Bool → Result ℕ Fault → Result ℕ Fault

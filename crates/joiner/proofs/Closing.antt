@@ -1,11 +1,11 @@
 -- What close makes of a feed.
-use Rattle.std.proofs.Common.{◌≡◌, ℕ, ◌<◌, ◌≤◌, Bool, true, false, cond, leb, List, length, get_or, set, Some, None, Ok, Err, Result, sym, refl, ap, ◌∙◌, subst, arith}
+use Rattle.std.proofs.Common.{◌≡◌, ℕ, Bool, cond, List, length, get_or, set, Some, None, Ok, Err, sym, refl, ap, ◌∙◌}
 use Rattle.std.specs.List.{slice_get}
 use Rattle.std.proofs.lemmas.Bool.{lt-leb, le-leb}
 use Rattle.refusals.specs.Said.{Said, plain}
 use Rattle.order.specs.declared.state.FeedState.{FeedState}
 use Rattle.order.specs.declared.state.FeedState.TheVariants.{Idle, Holding, Closing, Closed}
-use Rattle.order.specs.Desk.{State, feed_state, close_at, close_plan, closed_as}
+use Rattle.order.specs.Desk.{State, feed_state, close_at, close_plan}
 use Rattle.order.specs.Queue.{has_record, Queued, Counted}
 use Rattle.order.proofs.Queues.{count_same, queued_same}
 use Rattle.order.proofs.Steps.{ok≢err}

@@ -1,8 +1,7 @@
 -- The feeds' states in their row, and the mask of the idle ones.
-use Rattle.std.proofs.Common.{◌≡◌, ℕ, zero, suc, ◌+◌, ◌-◌, ◌*◌, ◌^◌, ◌<◌, ◌≤◌, true, false, List, [], ◌∷◌, length, get_or, take, set, sym, refl, ap, ◌∙◌, ap₂, arith, length-take}
+use Rattle.std.proofs.Common.{◌≡◌, ℕ, ◌-◌, ◌^◌, ◌<◌, ◌≤◌, true, false, List, length, take, set, sym, ap, ◌∙◌, ap₂, arith, length-take}
 use lib.Bits.{bit_or, bit_and}
 use lib.Seq.{take-set-lt}
-use Rattle.std.proofs.lemmas.List.{length-take-le}
 use Rattle.order.specs.declared.state.FeedState.{FeedState}
 use Rattle.order.specs.Queue.{is_idle, idle_mask}
 use Rattle.order.proofs.Masks.{mask_freed, mask_busied}

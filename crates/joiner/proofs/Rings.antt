@@ -1,5 +1,5 @@
 -- The ring of waiting feeds as a list.
-use Rattle.std.proofs.Common.{◌≡◌, ℕ, zero, suc, ◌+◌, ◌-◌, ◌%◌, ◌<◌, ◌≤◌, ◌≢◌, List, [], ◌∷◌, ◌++◌, length, get_or, set, Some, None, sym, refl, ap, ◌∙◌, ap₂, arith, get_or-set_other, get_or-set_same}
+use Rattle.std.proofs.Common.{◌≡◌, ℕ, zero, suc, ◌+◌, ◌-◌, ◌%◌, ◌<◌, ◌≢◌, List, [], ◌∷◌, ◌++◌, length, get_or, set, Some, refl, ap, ◌∙◌, ap₂, arith, get_or-set_other, get_or-set_same}
 use Rattle.joiner.specs.Held.{ring_from, first_of}
 
 pub ring_length : (xs : List ℕ) (h n : ℕ) → length (ring_from xs h n) ≡ n

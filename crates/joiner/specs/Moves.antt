@@ -1,10 +1,8 @@
 -- What a call makes of a feed's state.
-use Rattle.std.specs.Prelude.{◌≡◌, ℕ, true, Ok, Err, Result}
-use Rattle.refusals.specs.declared.refusal.Refusal.{Refusal}
+use Rattle.std.specs.Prelude.{Ok, Err, Result}
 use Rattle.refusals.specs.Said.{Said, said, plain}
 use Rattle.order.specs.declared.state.FeedState.{FeedState}
 use Rattle.order.specs.declared.state.FeedState.TheVariants.{Idle, Holding, Closing, Closed}
-use Rattle.order.specs.Queue.{has_record}
 use Rattle.joiner.specs.declared.moves.Move.{Move}
 use Rattle.joiner.specs.declared.moves.Move.TheVariants.{Put, Close, Take}
 

@@ -10,7 +10,7 @@ use clocks::bank::Bank;
 
 impl<B: Bank> Joiner<B> {
     pub fn call<T: Copy>(&mut self, shelf: &mut Shelf<'_, T>, call: Call<T>) -> Reply<T>
-        ensures called { Called (meaning self.old.bank) (desk_of self.old shelf.old.slots.now) call result (desk_of self.new shelf.new.slots.now) }
+        ensures called { Called (B.Bank.meaning self.old.bank) (desk_of self.old shelf.old.slots.now) call result (desk_of self.new shelf.new.slots.now) }
         ensures kept { self.new.bank ≡ self.old.bank }
         ensures lent { shelf.new.slots.ghost_name ≡ shelf.old.slots.ghost_name }
     {

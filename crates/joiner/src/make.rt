@@ -41,7 +41,7 @@ fn admit(feeds: u8, slots: usize) -> usize
 impl<B: Bank> Joiner<B> {
     // Whether a joiner over this bank and on this shelf would have feeds.
     pub fn check_size<T: Copy>(bank: &B, shelf: &Shelf<'_, T>) -> Result<(), Refusal>
-        ensures { told result ≡ size_answer (meaning bank.now).feeds (length shelf.now.slots.now) }
+        ensures { told result ≡ size_answer (B.Bank.meaning bank.now).feeds (length shelf.now.slots.now) }
     {
         judge_size(bank.feeds(), shelf.len())
     }
@@ -49,9 +49,9 @@ impl<B: Bank> Joiner<B> {
     // A joiner with the starting table and every feed idle. Where the size check refuses it has no feeds, else all the bank's.
     // What becomes of its order, whatever is called, is promised here.
     pub fn new<T: Copy>(bank: B, shelf: &Shelf<'_, T>) -> Joiner<B>
-        ensures fresh { state_of result ≡ (made (meaning bank) starting shelf.now.slots.now).joiner }
+        ensures fresh { state_of result ≡ (made (B.Bank.meaning bank) starting shelf.now.slots.now).joiner }
         ensures kept { result.bank ≡ bank }
-        ensures promise { KeepsOrder (meaning bank) starting shelf.now.slots.now }
+        ensures promise { KeepsOrder (B.Bank.meaning bank) starting shelf.now.slots.now }
     {
         let count = admit(bank.feeds(), shelf.len());
         Joiner {

@@ -16,7 +16,7 @@ use refusals::refusal::Refusal;
 impl<B: Bank> Joiner<B> {
     // The tick of a stamp, for a feed that may be put to.
     fn tick_of(&self, feed: u8, stamp: (u64, u64)) -> Result<u64, Refusal>
-        ensures { told result ≡ put_at (meaning self.now.bank) (state_of self.now) feed stamp Idle }
+        ensures { told result ≡ put_at (B.Bank.meaning self.now.bank) (state_of self.now) feed stamp Idle }
     {
         if self.bank.loss(feed)? >= TOLD_LIMIT {
             return Err(Refusal::LossTooLarge);
@@ -36,7 +36,7 @@ impl<B: Bank> Joiner<B> {
         stamp: (u64, u64),
         body: T,
     ) -> Result<u64, Refusal>
-        ensures answer { told result ≡ put_answer (meaning self.old.bank) (state_of self.old) (length shelf.old.slots.now) feed stamp }
+        ensures answer { told result ≡ put_answer (B.Bank.meaning self.old.bank) (state_of self.old) (length shelf.old.slots.now) feed stamp }
         ensures desk { desk_of self.new shelf.new.slots.now ≡ after_put (desk_of self.old shelf.old.slots.now) feed body (told result) }
         ensures kept { self.new.bank ≡ self.old.bank }
         ensures lent { shelf.new.slots.ghost_name ≡ shelf.old.slots.ghost_name }

@@ -40,7 +40,7 @@ impl<B: Bank> Joiner<B> {
 
     // What a tick shows on a feed of the bank.
     pub fn show(&self, feed: u8, tick: u64) -> Result<(u64, u64), Refusal>
-        ensures { result ≡ bank_shows (meaning self.now.bank) (state_of self.now).table feed tick }
+        ensures { result ≡ bank_shows (B.Bank.meaning self.now.bank) (state_of self.now).table feed tick }
     {
         self.bank.show(&self.table, feed, tick)
     }

@@ -1,23 +1,23 @@
 -- what every run keeps: the records handed out and then those of the queue are the accepted ones, in order
-use Rattle.std.proofs.Common.{◌≡◌, ℕ, zero, suc, ◌+◌, ◌-◌, ◌<◌, ◌≤◌, Bool, true, false, cond, ◌||◌, eqb, ltb, leb, ◌≢◌, ◌⊎◌, List, [], ◌∷◌, ◌++◌, map, length, get_or, set, Some, None, Ok, Err, filter, Option, Result, sym, refl, ap, ◌∙◌, subst, inl, inr, ⊎_elim, append_assoc, append-nil, le_of_suc-le-suc, not-suc-le-zero, arith, length-set, get_or-set_other, get_or-set_same}
+use Rattle.std.proofs.Common.{◌≡◌, ℕ, zero, suc, ◌<◌, ◌≤◌, cond, eqb, ◌⊎◌, List, [], ◌∷◌, ◌++◌, map, length, get_or, set, Some, Ok, Err, filter, Option, Result, sym, refl, ap, ◌∙◌, subst, inl, inr, append_assoc, append-nil, arith, length-set, get_or-set_other, get_or-set_same}
 use lib.Seq.{append_snoc}
 use Rattle.std.specs.List.{AllByRecursion as All, slice_get}
 use Rattle.std.proofs.lemmas.Bool.{eq-eqb, ne_eqb, cases_eq}
 use Rattle.std.proofs.lemmas.List.Elements.{filter-append}
 use Rattle.std.proofs.ByRecursion.{All-push, All-weaker}
-use Rattle.refusals.specs.Said.{Said, plain, fault_said, none_waits}
+use Rattle.refusals.specs.Said.{Said}
 use Rattle.order.specs.declared.state.FeedState.{FeedState}
 use Rattle.order.specs.declared.state.FeedState.TheVariants.{Idle, Holding, Closing, Closed}
 use Rattle.calls.specs.declared.call.Handed.{Handed}
 use Rattle.leap.specs.declared.bulletin.Bulletin.{Bulletin}
-use Rattle.leap.specs.Table.{Table, Sound}
-use Rattle.leap.specs.Bulletin.{judged, table_after, Renews}
+use Rattle.leap.specs.Table.{Sound}
+use Rattle.leap.specs.Bulletin.{judged}
 use Rattle.clocks.specs.Forms.{Stamp}
 use Rattle.clocks.specs.Banks.{BankMeaning, LawfulBank}
-use Rattle.order.specs.Desk.{State, Desk, Event, Put, Take, Close, Renew, Elsewhere, feed_state, put_answer, after_put, close_at, close_plan, closed_as, done, renewed_by, TakeAnswer, held, released, rest, after_take, Step, Run}
+use Rattle.order.specs.Desk.{State, Desk, Event, Put, Take, Close, Renew, Elsewhere, feed_state, put_answer, after_put, close_plan, closed_as, renewed_by, TakeAnswer, held, released, rest, after_take, Step}
 use Rattle.order.specs.History.{Record, handed, accepted_by, given_by, accepted, given, waiting, waiting_in, slot, Waits}
-use Rattle.order.proofs.Rows.{head_same, tail_same, cons≢nil, some_same, none≢some, nth_set_same, nth_set_other, Climbs, climbs_push, map-++}
-use Rattle.order.proofs.Steps.{ok≢err, ok_same, Puts, put_ok, close_ok, close_same, after_sound, after_keeps, Takes, take_ok}
+use Rattle.order.proofs.Rows.{head_same, tail_same, cons≢nil, nth_set_same, nth_set_other, Climbs, climbs_push, map-++}
+use Rattle.order.proofs.Steps.{Puts, put_ok, close_ok, close_same, after_sound, after_keeps, Takes, take_ok}
 
 abbrev pub pair : {T : Type 0} → Record T → ℕ × T
 pair r = (r.tick, r.body)

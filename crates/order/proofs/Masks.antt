@@ -1,5 +1,5 @@
 -- a mask of the idle feeds: its ones count them, and its trailing zeros find the lowest
-use Rattle.std.proofs.Common.{◌≡◌, ℕ, zero, suc, ◌+◌, ◌-◌, ◌*◌, ◌/◌, ◌%◌, ◌^◌, ◌<◌, ◌≤◌, min, max, Bool, true, false, cond, not, List, [], ◌∷◌, map, length, get_or, set, replicate, count_by, filter, sym, refl, ap, ◌∙◌, subst, ap₂, le_of_suc-le-suc, not-suc-le-zero, mod-eq_of_lt, pow-suc, arith, pow_pos}
+use Rattle.std.proofs.Common.{◌≡◌, ℕ, zero, suc, ◌+◌, ◌-◌, ◌*◌, ◌/◌, ◌%◌, ◌^◌, ◌<◌, ◌≤◌, min, max, Bool, true, false, cond, not, List, [], ◌∷◌, map, length, get_or, set, replicate, filter, sym, refl, ap, ◌∙◌, ap₂, not-suc-le-zero, pow-suc, arith, pow_pos}
 use lib.Bits.{bit_or, bit_and, or_step, and_step, or_zero_r, and_mask}
 use lib.Count.{ones, count_trailing_zeros}
 use lib.Lanes.{mask_l}

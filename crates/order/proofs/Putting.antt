@@ -1,16 +1,14 @@
 -- what put answers over the first `count` states of a longer row, and what it leaves
-use Rattle.std.proofs.Common.{◌≡◌, ℕ, zero, suc, ◌+◌, ◌<◌, ◌≤◌, Bool, true, false, cond, ltb, leb, List, [], ◌∷◌, ◌++◌, length, get_or, take, set, Ok, Err, Result, sym, refl, ap, ◌∙◌, subst, add-one, arith, length-take, get_or-take, take-suc-set}
+use Rattle.std.proofs.Common.{◌≡◌, ℕ, ◌+◌, ◌<◌, ◌≤◌, cond, leb, List, [], ◌∷◌, ◌++◌, length, get_or, take, set, Ok, Err, ap, ◌∙◌, add-one, arith, length-take, get_or-take, take-suc-set}
 use lib.Seq.{take-set-lt}
-use Rattle.std.proofs.lemmas.Bool.{le-leb, lt-leb, le-ltb}
-use Rattle.refusals.specs.Said.{Said, plain, fault_said, none_waits}
+use Rattle.std.proofs.lemmas.Bool.{lt-leb, le-ltb}
+use Rattle.refusals.specs.Said.{plain}
 use Rattle.order.specs.declared.state.FeedState.{FeedState}
-use Rattle.order.specs.declared.state.FeedState.TheVariants.{Idle, Holding, Closing, Closed}
-use Rattle.leap.specs.declared.bulletin.Bulletin.{Bulletin}
-use Rattle.leap.specs.Table.{Table, Sound}
-use Rattle.leap.specs.Bulletin.{judged, table_after, Renews}
+use Rattle.order.specs.declared.state.FeedState.TheVariants.{Idle, Holding, Closed}
+use Rattle.leap.specs.Table.{Table}
 use Rattle.clocks.specs.Forms.{Stamp}
-use Rattle.clocks.specs.Banks.{BankMeaning, LawfulBank}
-use Rattle.order.specs.Desk.{State, Desk, feed_state, put_at, put_answer, after_put}
+use Rattle.clocks.specs.Banks.{BankMeaning}
+use Rattle.order.specs.Desk.{Desk, feed_state, put_at, put_answer, after_put}
 use Rattle.order.proofs.Shutting.{get_d_any, row_state}
 
 module _ (table : Table) (feeds : List FeedState) (count : ℕ) (queue : List ℕ) (waiting : ℕ) (last : ℕ) where

@@ -1,13 +1,13 @@
 -- the queue of waiting feeds beside the feeds' states
-use Rattle.std.proofs.Common.{◌≡◌, ℕ, zero, suc, ◌+◌, ◌-◌, ◌<◌, ◌≤◌, Bool, true, false, cond, eqb, ◌⊎◌, List, [], ◌∷◌, ◌++◌, map, length, get_or, take, set, replicate, filter, sym, refl, ap, ◌∙◌, subst, inl, inr, append-nil, le_of_suc-le-suc, not-suc-le-zero, arith, length-take, get_or-set_other, get_or-take, get_or-set_same}
+use Rattle.std.proofs.Common.{◌≡◌, ℕ, zero, suc, ◌+◌, ◌-◌, ◌<◌, ◌≤◌, Bool, true, false, cond, eqb, ◌⊎◌, List, [], ◌∷◌, ◌++◌, length, get_or, take, set, replicate, filter, sym, refl, ap, ◌∙◌, subst, inl, inr, append-nil, le_of_suc-le-suc, not-suc-le-zero, arith, length-take, get_or-set_other, get_or-take, get_or-set_same}
 use lib.Seq.{take-set-lt}
 use Rattle.std.proofs.lemmas.Bool.{eq-eqb, ne_eqb, cases_eq}
 use Rattle.std.proofs.lemmas.List.Elements.{filter-append}
 use Rattle.order.specs.declared.state.FeedState.{FeedState}
-use Rattle.order.specs.declared.state.FeedState.TheVariants.{Idle, Holding, Closing, Closed}
+use Rattle.order.specs.declared.state.FeedState.TheVariants.{Idle, Closed}
 use Rattle.order.specs.Queue.{has_record, Queued, Counted}
 use Rattle.order.proofs.Shutting.{get_d_any}
-use Rattle.order.proofs.Rows.{head_same, tail_same, cons≢nil}
+use Rattle.order.proofs.Rows.{tail_same, cons≢nil}
 
 -- ---- how many pass a test, at a write
 module _ {A : Type 0} (p : A → Bool) where

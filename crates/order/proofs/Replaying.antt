@@ -1,5 +1,5 @@
 -- One more call of a list of calls.
-use Rattle.std.proofs.Common.{◌≡◌, List, [], ◌∷◌, ◌++◌, refl, subst}
+use Rattle.std.proofs.Common.{List, [], ◌∷◌, ◌++◌, refl, subst}
 use Rattle.clocks.specs.Banks.{BankMeaning}
 use Rattle.order.specs.Desk.{Desk, Event, Step, Run}
 

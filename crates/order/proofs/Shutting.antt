@@ -1,17 +1,13 @@
 -- what close does to the first `count` states of a longer row
-use Rattle.std.proofs.Common.{◌≡◌, ℕ, zero, suc, ◌<◌, ◌≤◌, min, Bool, true, false, cond, leb, List, [], ◌∷◌, length, get_or, take, set, Ok, Err, Result, sym, refl, ap, ◌∙◌, subst, le_of_suc-le-suc, not-suc-le-zero, arith, length-take, get_or-take}
+use Rattle.std.proofs.Common.{◌≡◌, ℕ, zero, suc, ◌<◌, ◌≤◌, false, cond, List, [], ◌∷◌, length, get_or, take, set, Ok, Err, sym, refl, ap, ◌∙◌, le_of_suc-le-suc, not-suc-le-zero, arith, length-take, get_or-take}
 use lib.Seq.{take-set-lt}
 use Rattle.std.proofs.lemmas.Bool.{le-leb, lt-leb}
-use Rattle.refusals.specs.Said.{Said, plain, fault_said, none_waits}
+use Rattle.refusals.specs.Said.{plain}
 use Rattle.order.specs.declared.state.FeedState.{FeedState}
 use Rattle.order.specs.declared.state.FeedState.TheVariants.{Idle, Holding, Closing, Closed}
 use Rattle.order.specs.Queue.{is_idle}
-use Rattle.leap.specs.declared.bulletin.Bulletin.{Bulletin}
-use Rattle.leap.specs.Table.{Table, Sound}
-use Rattle.leap.specs.Bulletin.{judged, table_after, Renews}
-use Rattle.clocks.specs.Forms.{Stamp}
-use Rattle.clocks.specs.Banks.{BankMeaning, LawfulBank}
-use Rattle.order.specs.Desk.{State, feed_state, close_at, close_plan, closed_as, done}
+use Rattle.leap.specs.Table.{Table}
+use Rattle.order.specs.Desk.{State, feed_state, close_at, close_plan, closed_as}
 
 pub get_d_any : {A : Type 0} (xs : List A) (i : ℕ) (d e : A) → i < length xs → get_or xs i d ≡ get_or xs i e
 get_d_any [] i d e h = absurd (not-suc-le-zero h)

@@ -1,27 +1,23 @@
 -- what each call leaves of the queue, the slots and the accepted records
-use Rattle.std.proofs.Common.{◌≡◌, ℕ, zero, suc, ◌+◌, ◌-◌, ◌<◌, ◌≤◌, Bool, true, false, cond, ◌&&◌, ◌||◌, eqb, ltb, leb, ◌≢◌, ◌⊎◌, List, [], ◌∷◌, ◌++◌, map, length, get_or, set, Some, None, Ok, Err, filter, Option, Result, sym, refl, ap, ◌∙◌, subst, inl, inr, ⊎_elim, append_assoc, append-nil, le_of_suc-le-suc, not-suc-le-zero, arith, length-set, get_or-set_other, get_or-set_same}
-use lib.Seq.{append_snoc}
-use Rattle.std.specs.List.{AllByRecursion as All, slice_get}
-use Rattle.std.proofs.lemmas.Bool.{ltb-true, ltb-false, leb-true, leb-false, eqb-true, eqb-false, eq-eqb, ne_eqb, cases_eq, or_parts}
-use Rattle.std.proofs.lemmas.List.Elements.{filter-append}
-use Rattle.std.proofs.ByRecursion.{All-push, All-weaker}
+use Rattle.std.proofs.Common.{◌≡◌, ℕ, zero, suc, ◌<◌, ◌≤◌, Bool, true, false, cond, ◌&&◌, ltb, leb, List, [], ◌∷◌, length, Some, Ok, Err, Option, Result, sym, refl, ap, ◌∙◌, arith}
+use Rattle.std.specs.List.{slice_get}
+use Rattle.std.proofs.lemmas.Bool.{ltb-true, ltb-false, leb-false}
 use Rattle.refusals.specs.declared.fault.Fault.{Fault}
 use Rattle.refusals.specs.declared.refusal.Refusal.{Refusal}
 use Rattle.refusals.specs.declared.refusal.Refusal.TheVariants.{NoFeed}
-use Rattle.refusals.specs.Said.{said, Said, plain, fault_said, none_waits}
+use Rattle.refusals.specs.Said.{Said, plain}
 use Rattle.order.specs.declared.state.FeedState.{FeedState}
 use Rattle.order.specs.declared.state.FeedState.TheVariants.{Idle, Holding, Closing, Closed}
 use Rattle.calls.specs.declared.call.Handed.{Handed}
 use Rattle.leap.specs.declared.bulletin.Bulletin.{Bulletin}
 use Rattle.leap.specs.Table.{Table, Sound}
-use Rattle.leap.specs.Bulletin.{judged, renewed, after_answer, table_after, Renews}
+use Rattle.leap.specs.Bulletin.{judged, renewed, after_answer, Renews}
 use Rattle.leap.proofs.Bulletins.{accepted_sound, accepted_renews}
 use Rattle.clocks.specs.Counts.{told_limit}
 use Rattle.clocks.specs.Forms.{Stamp}
-use Rattle.clocks.specs.Banks.{BankMeaning, LawfulBank, clocked, bank_reads, bank_loss}
-use Rattle.order.specs.Desk.{State, Desk, Event, Put, Take, Close, Renew, Elsewhere, feed_state, loss_checked, in_order, put_at, put_answer, after_put, close_at, close_plan, closed_as, done, renewed_by, TakeAnswer, take_if_short, waits_none, take_at, idle_count, held, released, rest, after_take, Step, Run}
-use Rattle.order.specs.History.{Record, accepted_by, given_by, accepted, given, waiting, waiting_in, slot, Waits}
-use Rattle.order.proofs.Rows.{cons≢nil, some_same, none≢some, nth_set_same, nth_set_other, Climbs, climbs_push, map-++}
+use Rattle.clocks.specs.Banks.{BankMeaning, clocked, bank_reads, bank_loss}
+use Rattle.order.specs.Desk.{State, feed_state, loss_checked, in_order, put_at, put_answer, close_at, close_plan, TakeAnswer, take_if_short, waits_none, take_at, idle_count, held}
+use Rattle.order.specs.History.{waiting_in}
 
 -- ---- answers
 

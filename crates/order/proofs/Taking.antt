@@ -1,20 +1,15 @@
 -- what take gives over the first `count` states of a longer row, and what it leaves
-use Rattle.std.proofs.Common.{◌≡◌, ℕ, zero, suc, ◌+◌, ◌-◌, ◌<◌, ◌≤◌, Bool, true, false, cond, eqb, ltb, List, [], ◌∷◌, ◌++◌, length, get_or, take, drop, set, Some, None, Ok, Err, filter, Option, Result, sym, refl, ap, ◌∙◌, subst, le_of_suc-le-suc, not-suc-le-zero, add-one, arith, length-drop, length-take, get_or-drop, get_or-take}
+use Rattle.std.proofs.Common.{◌≡◌, ℕ, zero, suc, ◌+◌, ◌-◌, ◌<◌, ◌≤◌, true, false, cond, List, [], ◌∷◌, length, get_or, take, drop, set, Some, None, Ok, Result, sym, refl, ap, ◌∙◌, subst, not-suc-le-zero, arith, length-drop, length-take, get_or-drop, get_or-take}
 use lib.Seq.{take-set-lt}
 use Rattle.std.proofs.lemmas.List.{ext_get_or}
 use Rattle.std.proofs.lemmas.Bool.{ne_eqb, le-ltb}
 use Rattle.std.proofs.lemmas.Option.{slice_get-get_or}
-use Rattle.std.specs.List.{slice_get}
 use Rattle.calls.specs.declared.call.Handed.{Handed}
 use Rattle.order.specs.declared.state.FeedState.{FeedState}
 use Rattle.order.specs.declared.state.FeedState.TheVariants.{Idle, Holding, Closing, Closed}
-use Rattle.leap.specs.declared.bulletin.Bulletin.{Bulletin}
-use Rattle.leap.specs.Table.{Table, Sound}
-use Rattle.leap.specs.Bulletin.{judged, table_after, Renews}
-use Rattle.clocks.specs.Forms.{Stamp}
-use Rattle.clocks.specs.Banks.{BankMeaning, LawfulBank}
+use Rattle.leap.specs.Table.{Table}
 use Rattle.order.specs.Desk.{State, feed_state, held, released, rest, TakeAnswer, take_if_short, take_at, after_take}
-use Rattle.order.specs.Queue.{has_record, first_queued, Queued, Counted}
+use Rattle.order.specs.Queue.{has_record, first_queued, Queued}
 use Rattle.order.proofs.Rows.{some_same, none≢some}
 use Rattle.order.proofs.Queues.{head_waits}
 use Rattle.order.proofs.Shutting.{get_d_any, row_state}

@@ -1,27 +1,24 @@
 -- the promise over whole runs
-use Rattle.std.proofs.Common.{◌≡◌, ℕ, zero, suc, ◌+◌, ◌-◌, ◌<◌, ◌≤◌, Bool, true, false, cond, ◌||◌, eqb, ltb, leb, ◌≢◌, ◌⊎◌, ◌↔◌, List, [], ◌∷◌, ◌++◌, map, length, get_or, take, set, replicate, Some, None, Ok, Err, filter, Option, Result, sym, refl, ap, ◌∙◌, subst, inl, inr, ⊎_elim, append_assoc, append-nil, le_of_suc-le-suc, not-suc-le-zero, arith, length-append, length-set}
+use Rattle.std.proofs.Common.{◌≡◌, ℕ, zero, suc, ◌+◌, ◌-◌, ◌<◌, ◌≤◌, Bool, true, false, cond, ◌||◌, eqb, ltb, ◌⊎◌, ◌↔◌, List, [], ◌∷◌, ◌++◌, map, length, get_or, take, replicate, Some, Ok, Err, filter, Option, sym, refl, ap, ◌∙◌, subst, inl, inr, append_assoc, append-nil, not-suc-le-zero, arith, length-append}
 use lib.ListN.{length-map, length-replicate}
 use lib.Seq.{append_snoc}
 use Rattle.std.specs.List.{AllByRecursion as All, slice_get}
-use Rattle.std.proofs.lemmas.Bool.{eq-eqb, eqb-true, ltb-false, cases_eq, cases_lt, or_parts, cond_both}
+use Rattle.std.proofs.lemmas.Bool.{eq-eqb, eqb-true, ltb-false, cases_lt}
 use Rattle.std.proofs.lemmas.List.Elements.{filter-append}
 use Rattle.std.proofs.ByRecursion.{All-weaker, all_kept_by, kept_by_passes}
-use Rattle.refusals.specs.Said.{Said, plain, fault_said, none_waits}
+use Rattle.refusals.specs.Said.{plain}
 use Rattle.order.specs.declared.state.FeedState.{FeedState}
 use Rattle.order.specs.declared.state.FeedState.TheVariants.{Idle, Holding, Closing, Closed}
 use Rattle.calls.specs.declared.call.Handed.{Handed}
-use Rattle.leap.specs.declared.bulletin.Bulletin.{Bulletin}
 use Rattle.leap.specs.Table.{Table, Sound}
-use Rattle.leap.specs.Bulletin.{judged, table_after, Renews}
 use Rattle.clocks.specs.Counts.{Count}
-use Rattle.clocks.specs.Forms.{Stamp}
 use Rattle.clocks.specs.Banks.{BankMeaning, LawfulBank}
-use Rattle.order.specs.Desk.{State, Desk, Event, Put, Take, Close, Renew, Elsewhere, feed_state, size_answer, admitted, admits, made, Step, Run}
-use Rattle.order.specs.History.{Record, handed, accepted_by, given_by, accepted, given, accepted_of, given_of, HandsOut, waiting, waiting_in, slot, Waits, NeverFalls}
-use Rattle.order.specs.Promise.{TrueTick, OrderKept, KeepsOrder}
-use Rattle.order.proofs.Rows.{nth_some, nth_map_front, head_same, tail_same, cons≢nil, some_same, none≢some, all_nth, nth_seam, nth_after, all_left, all_right, Climbs, climbs_left, climbs_right, never_falls, kept_map, map_map, map-++}
-use Rattle.order.proofs.Steps.{ok≢err, ok_same, take_ok, Takes}
-use Rattle.order.proofs.Kept.{pair, of_feed, tick_of, feed_of, Good, Kept, accepted-++, given-++, step_keeps, First, first_of, in_range}
+use Rattle.order.specs.Desk.{Desk, Event, Take, feed_state, admitted, admits, made, Step, Run}
+use Rattle.order.specs.History.{Record, handed, accepted, given, accepted_of, given_of, waiting, waiting_in, Waits, NeverFalls}
+use Rattle.order.specs.Promise.{TrueTick, OrderKept}
+use Rattle.order.proofs.Rows.{nth_some, nth_map_front, some_same, all_nth, nth_seam, nth_after, Climbs, climbs_left, climbs_right, never_falls, kept_map, map_map, map-++}
+use Rattle.order.proofs.Steps.{take_ok}
+use Rattle.order.proofs.Kept.{pair, of_feed, tick_of, Good, Kept, accepted-++, step_keeps, First, first_of, in_range}
 
 take_at_seam : {A : Type 0} (xs ys : List A) → take (length xs) (xs ++ ys) ≡ xs
 take_at_seam [] ys = refl

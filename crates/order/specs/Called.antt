@@ -1,5 +1,5 @@
 -- Calls as values, with their replies, as events of a run.
-use Rattle.std.specs.Prelude.{◌≡◌, ℕ, List, [], ◌∷◌, Result}
+use Rattle.std.specs.Prelude.{◌≡◌, ℕ, Result}
 use Rattle.refusals.specs.declared.refusal.Refusal.{Refusal}
 use Rattle.refusals.specs.Said.{told}
 use Rattle.calls.specs.declared.call.Call.{Call}

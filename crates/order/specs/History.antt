@@ -1,5 +1,5 @@
 -- Words over a history of calls: what was accepted, what was handed out, what waits.
-use Rattle.std.specs.Prelude.{◌≡◌, ℕ, ◌<◌, ◌≤◌, List, [], ◌∷◌, ◌++◌, map, length, Some, None, Ok, Err, filter, Option, nat_eq, slice_index}
+use Rattle.std.specs.Prelude.{◌≡◌, ℕ, ◌<◌, ◌≤◌, List, [], ◌∷◌, ◌++◌, length, Some, None, Ok, Err, filter, Option, nat_eq, slice_index}
 use Rattle.std.specs.List.{slice_get}
 use Rattle.calls.specs.declared.call.Handed.{Handed}
 use Rattle.clocks.specs.Forms.{Stamp}

@@ -1,5 +1,5 @@
 -- The promise about the order of records, over every list of calls.
-use Rattle.std.specs.Prelude.{◌≡◌, ℕ, ◌+◌, ◌-◌, ◌<◌, ◌≤◌, ◌↔◌, List, [], ◌∷◌, ◌++◌, map, length, take, Some, Ok}
+use Rattle.std.specs.Prelude.{◌≡◌, ℕ, ◌+◌, ◌-◌, ◌<◌, ◌≤◌, ◌↔◌, List, ◌∷◌, ◌++◌, map, length, take, Some, Ok}
 use Rattle.std.specs.List.{AllByRecursion as All, slice_get}
 use Rattle.leap.specs.Table.{Table, Sound}
 use Rattle.calls.specs.declared.call.Handed.{Handed}

@@ -18,7 +18,7 @@ pub fn answer_line<B: Bank>(
     shelf: &mut Shelf<'_, LicenceEvent>,
     line: &[u8],
 ) -> Answer
-    ensures answers { (vs : List (Event Body)) × Answers (meaning joiner.old.bank) (desk_of joiner.old shelf.old.slots.now) line.now result vs (desk_of joiner.new shelf.new.slots.now) }
+    ensures answers { (vs : List (Event Body)) × Answers (B.Bank.meaning joiner.old.bank) (desk_of joiner.old shelf.old.slots.now) line.now result vs (desk_of joiner.new shelf.new.slots.now) }
     ensures kept { joiner.new.bank ≡ joiner.old.bank }
     ensures lent { shelf.new.slots.ghost_name ≡ shelf.old.slots.ghost_name }
 {

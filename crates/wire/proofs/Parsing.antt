@@ -1,7 +1,6 @@
 -- The decoder undoes the encoding, and what it decodes is encoded as it stood.
-use Rattle.std.proofs.Common.{◌≡◌, ℕ, zero, suc, ◌+◌, ◌*◌, ◌^◌, ◌<◌, ◌≤◌, Bool, true, false, cond, eqb, ◌⊎◌, List, [], ◌∷◌, ◌++◌, length, get_or, drop, Some, None, Option, sym, refl, ap, ◌∙◌, subst, inl, inr, arith, length-drop}
+use Rattle.std.proofs.Common.{◌≡◌, ℕ, zero, suc, ◌^◌, ◌<◌, ◌≤◌, Bool, true, false, cond, eqb, List, [], ◌∷◌, ◌++◌, length, get_or, drop, Some, None, Option, sym, refl, ap, ◌∙◌, inl, inr, arith, length-drop}
 use Rattle.std.proofs.lemmas.Bool.{cases_Bool, eqb-true}
-use Rattle.leap.specs.declared.bulletin.Bulletin.{Bulletin}
 use Rattle.calls.specs.declared.call.Call.{Call}
 use Rattle.calls.specs.declared.call.Call.TheVariants.{Put, Close, Take, Renew}
 use Rattle.calls.specs.declared.event.Action.{Action}
@@ -10,7 +9,7 @@ use Rattle.calls.specs.declared.event.LicenceEvent.{LicenceEvent}
 use Rattle.calls.specs.Event.{action_of, action_code}
 use Rattle.wire.specs.Bytes.{big_endian, hexed, Bytes}
 use Rattle.wire.specs.Frame.{frame_bytes, frame_line, event_bytes, FitsFrame}
-use Rattle.wire.specs.Decoder.{pair_at, quad_at, eight_at, event_by, event_of, put_by, put_of, if_long, call_of, parsed}
+use Rattle.wire.specs.Decoder.{pair_at, quad_at, eight_at, event_by, event_of, put_by, if_long, call_of, parsed}
 use Rattle.wire.proofs.Bigs.{pair_back, quad_back, eight_back, pair_there, quad_there, eight_there, bytes_big}
 use Rattle.wire.proofs.Hexes.{bytes_at, bytes_append, hexed_one}
 

@@ -5,7 +5,6 @@ use Rattle.refusals.specs.declared.refusal.Refusal.{Refusal}
 use Rattle.refusals.specs.declared.refusal.Refusal.TheVariants.{Malformed, FeedCount, ShortShelf, NoFeed, FeedClosed, FeedHolding, Clock, Behind, LossTooLarge, NoneWaits, AllClosed, BadChange, BadExpiry, BadDay, TableLimit}
 use Rattle.refusals.specs.Said.{said, way_number}
 use Rattle.calls.specs.declared.call.Handed.{Handed}
-use Rattle.calls.specs.declared.call.Reply.{Reply}
 use Rattle.calls.specs.declared.call.Reply.TheVariants.{Put, Close, Take, Renew}
 use Rattle.calls.specs.declared.event.LicenceEvent.{LicenceEvent}
 use Rattle.wire.specs.declared.answer.Answer.{Answer}

@@ -1,6 +1,5 @@
 -- Frames: the calls as lines of text.
 use Rattle.std.specs.Prelude.{ℕ, ◌^◌, ◌<◌, List, [], ◌∷◌, ◌++◌}
-use Rattle.leap.specs.declared.bulletin.Bulletin.{Bulletin}
 use Rattle.calls.specs.declared.call.Call.{Call}
 use Rattle.calls.specs.declared.call.Call.TheVariants.{Put, Close, Take, Renew}
 use Rattle.calls.specs.declared.event.LicenceEvent.{LicenceEvent}

@@ -1,4 +1,4 @@
-use Rattle.std.proofs.Common.{◌≡◌, ℕ, List, [], ◌∷◌, ◌++◌, vec_items, sym, ap, ◌∙◌}
+use Rattle.std.proofs.Common.{[], ◌∷◌, vec_items}
 use Rattle.wire.specs.Bytes.{hexed, line_feed}
 use Rattle.wire.specs.Answer.{answer_bytes}
 use Rattle.wire.proofs.Hexes.{closed}
@@ -6,5 +6,5 @@ use Rattle.answers.proofs.answer.write_answer.Goals as goal
 
 pub returns : goal.returns
 returns c =
-    closed (vec_items c.args.out.now) (vec_items c.write-fields.new.out) (vec_items c.push.new.self) (hexed (answer_bytes c.args.answer)) (line_feed ∷ [])
-    c.in-ok-write-fields.ensures c.in-ok-push.ensures.items
+    closed (vec_items c.args.out.now) (vec_items c.write_fields.new.out) (vec_items c.push.new.self) (hexed (answer_bytes c.args.answer)) (line_feed ∷ [])
+    c.in_ok-write_fields.ensures c.in_ok-push.ensures.items

@@ -10,12 +10,12 @@ with_values : (e f g : List ℕ) (kind n m : ℕ) (vs ws : List ℕ) → m ≡ n
 with_values e f g kind n m vs ws s p q t =
     joined e f g (kind ∷ (n ∷ [])) vs (p ∙ ap (λ (k : ℕ). e ++ hexed (kind ∷ (k ∷ []))) s) q ∙ ap (λ (xs : List ℕ). e ++ hexed (kind ∷ (n ∷ xs))) t
 
-pub returns-in-ok-write-fault : goal.returns-in-ok-write-fault
-returns-in-ok-write-fault c =
-    with_values (vec_items c.args.out.now) (vec_items c.write-head.new.out) (vec_items c.write-fault.new.out) c.args.kind (said c.args.refusal).number c.number.result (fault_bytes c.in-Clock.fault) (refusal_values c.args.refusal)
-    c.number.ensures c.in-ok-write-head.ensures c.in-ok-write-fault.ensures (ap refusal_values (sym c.in-Clock.is))
+pub returns-in_ok-write_fault-in-Clock : goal.returns-in_ok-write_fault-in-Clock
+returns-in_ok-write_fault-in-Clock c =
+    with_values (vec_items c.args.out.now) (vec_items c.write_head.new.out) (vec_items c.write_fault.new.out) c.args.kind (said c.args.refusal).number c.number.result (fault_bytes c.in-Clock.fault) (refusal_values c.args.refusal)
+    c.number.ensures c.in_ok-write_head.ensures c.in_ok-write_fault-in-Clock.ensures (ap refusal_values (sym c.in-Clock.is))
 
-pub returns-in-ok-write-byte : goal.returns-in-ok-write-byte
-returns-in-ok-write-byte c =
-    with_values (vec_items c.args.out.now) (vec_items c.write-head.new.out) (vec_items c.write-byte.new.out) c.args.kind (said c.args.refusal).number c.number.result (c.in-NoneWaits.idle ∷ []) (refusal_values c.args.refusal)
-    c.number.ensures c.in-ok-write-head.ensures c.in-ok-write-byte.ensures (ap refusal_values (sym c.in-NoneWaits.is))
+pub returns-in_ok-write_byte-in-NoneWaits : goal.returns-in_ok-write_byte-in-NoneWaits
+returns-in_ok-write_byte-in-NoneWaits c =
+    with_values (vec_items c.args.out.now) (vec_items c.write_head.new.out) (vec_items c.write_byte.new.out) c.args.kind (said c.args.refusal).number c.number.result (c.in-NoneWaits.idle ∷ []) (refusal_values c.args.refusal)
+    c.number.ensures c.in_ok-write_head.ensures c.in_ok-write_byte-in-NoneWaits.ensures (ap refusal_values (sym c.in-NoneWaits.is))

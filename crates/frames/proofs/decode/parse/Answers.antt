@@ -1,4 +1,4 @@
-use Rattle.std.proofs.Common.{◌≡◌, ℕ, ◌-◌, ◌<◌, ◌≤◌, List, [], ◌∷◌, length, get_or, take, drop, refl, ap, ◌∙◌, arith, rules}
+use Rattle.std.proofs.Common.{◌≡◌, ℕ, ◌-◌, ◌<◌, List, [], ◌∷◌, length, get_or, take, drop, ap, ◌∙◌, arith, rules}
 use Rattle.std.proofs.lemmas.List.{take_all}
 use Rattle.wire.specs.Decoder.{parsed, call_of}
 use Rattle.frames.proofs.decode.parse.Goals as goal
@@ -11,4 +11,4 @@ split (x ∷ xs) h = ap (call_of x) (take_all (length (x ∷ xs) - 1) xs (omega 
 pub returns : goal.returns
 returns c =
     let l : 0 < length c.args.bytes.now = search rules in
-    c.parse-kind.ensures ∙ split c.args.bytes.now l
+    c.parse_kind.ensures ∙ split c.args.bytes.now l

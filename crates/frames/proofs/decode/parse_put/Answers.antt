@@ -1,4 +1,4 @@
-use Rattle.std.proofs.Common.{◌≡◌, ℕ, ◌-◌, ◌<◌, List, [], ◌∷◌, length, take, drop, None, sym, refl, ap, ◌∙◌, arith, length-drop, rules}
+use Rattle.std.proofs.Common.{◌≡◌, ℕ, ◌-◌, ◌<◌, List, [], ◌∷◌, length, take, drop, None, sym, ap, ◌∙◌, arith, length-drop, rules}
 use Rattle.std.proofs.lemmas.List.{take_all}
 use Rattle.wire.specs.Decoder.{eight_at, event_of, put_by}
 use Rattle.wire.proofs.Parsing.{same_put}
@@ -24,18 +24,18 @@ second_half : (xs : List ℕ) → 0 < length xs → eight_at (behind 1 xs) 8 ≡
 second_half [] h = let z : ⊥ = omega arith in absurd z
 second_half (x ∷ xs) h = ap (λ (ys : List ℕ). eight_at ys 8) (all_behind 1 (x ∷ xs))
 
-pub returns-in-default-parse-event : goal.returns-in-default-parse-event
-returns-in-default-parse-event c =
+pub returns-in_default-parse_event : goal.returns-in_default-parse_event
+returns-in_default-parse_event c =
     let xs : List ℕ = c.args.bytes.now in
     let l : 0 < length xs = search rules in
-    let n : c.parse-event.result ≡ None = search rules in
-    sym (ap (put_by xs) (ap event_of (sym (seventeen xs l)) ∙ sym c.parse-event.ensures ∙ n))
+    let n : c.parse_event.result ≡ None = search rules in
+    sym (ap (put_by xs) (ap event_of (sym (seventeen xs l)) ∙ sym c.parse_event.ensures ∙ n))
 
 pub returns : goal.returns
 returns c =
     let xs : List ℕ = c.args.bytes.now in
     let l : 0 < length xs = search rules in
-    let hi : c.from-be-bytes-hi.result ≡ eight_at (behind 1 xs) 0 = search rules in
-    let lo : c.from-be-bytes-lo.result ≡ eight_at (behind 1 xs) 8 = search rules in
+    let hi : c.from_be_bytes-hi.result ≡ eight_at (behind 1 xs) 0 = search rules in
+    let lo : c.from_be_bytes-lo.result ≡ eight_at (behind 1 xs) 8 = search rules in
     same_put _ _ _ _ _ c.in-Some.body (hi ∙ first_half xs l) (lo ∙ second_half xs l)
-    ∙ sym (ap (put_by xs) (ap event_of (sym (seventeen xs l)) ∙ sym c.parse-event.ensures ∙ c.in-Some.is))
+    ∙ sym (ap (put_by xs) (ap event_of (sym (seventeen xs l)) ∙ sym c.parse_event.ensures ∙ c.in-Some.is))

@@ -1,4 +1,4 @@
-use Rattle.std.proofs.Common.{◌≡◌, ℕ, ◌+◌, ◌*◌, ◌/◌, ◌<◌, ◌≤◌, List, length, take, sym, ap, ◌∙◌, subst, arith, length-set}
+use Rattle.std.proofs.Common.{◌≡◌, ℕ, ◌*◌, ◌/◌, ◌<◌, length, take, sym, ap, ◌∙◌, subst, arith, length-set}
 use Rattle.std.proofs.lemmas.List.{take_all}
 use Rattle.wire.specs.Bytes.{hexed, Bytes}
 use Rattle.wire.proofs.Hexes.{bytes_more, hexed_more, is_even, high_digit, low_digit}
@@ -13,15 +13,15 @@ returns-then-line c = λ bs b h e.
       | then-line-via-else-line+then-line-ne0 w ↦ let odd = w.if-line-ne0.true in omega arith
     ]
 
-pub returns-in-default : goal.returns-in-default
-returns-in-default c = λ bs b h e.
+pub returns-in_default : goal.returns-in_default
+returns-in_default c = λ bs b h e.
     let d = high_digit bs c.args.line.now c.loop-i.i b e (omega arith) in
-    c.in-default.ensures d.0 d.1 d.2
+    c.in_default.ensures d.0 d.1 d.2
 
-pub returns-in-default-digit-value : goal.returns-in-default-digit-value
-returns-in-default-digit-value c = λ bs b h e.
+pub returns-in_default-digit_value : goal.returns-in_default-digit_value
+returns-in_default-digit_value c = λ bs b h e.
     let d = low_digit bs c.args.line.now c.loop-i.i e (omega arith) in
-    c.in-default-digit-value.ensures d.0 d.1 d.2
+    c.in_default-digit_value.ensures d.0 d.1 d.2
 
 pub loop-i-preserved : goal.loop-i-preserved
 loop-i-preserved c =
@@ -29,10 +29,10 @@ loop-i-preserved c =
     let line = c.args.line.now in
     let room : i < length c.loop-i.bytes = omega (arith, c.loop-i.invariant.0) in
     let high = c.in-Some.ensures in
-    let low = c.in-Some-digit-value.ensures in (
+    let low = c.in-Some-digit_value.ensures in (
       simp length-set c.loop-i.invariant.0,
-      bytes_more c.loop-i.bytes line i c.in-Some.high c.in-Some-digit-value.low room high.0 low.0 c.loop-i.invariant.1,
-      hexed_more c.loop-i.bytes line i c.in-Some.high c.in-Some-digit-value.low room high.0 low.0 (omega arith) high.1 low.1 c.loop-i.invariant.2,
+      bytes_more c.loop-i.bytes line i c.in-Some.high c.in-Some-digit_value.low room high.0 low.0 c.loop-i.invariant.1,
+      hexed_more c.loop-i.bytes line i c.in-Some.high c.in-Some-digit_value.low room high.0 low.0 (omega arith) high.1 low.1 c.loop-i.invariant.2,
     )
 
 -- the loop has come to the line's end

@@ -1,4 +1,4 @@
-use Rattle.std.proofs.Common.{◌≡◌, ◌<◌, length, drop, sym, refl, arith}
+use Rattle.std.proofs.Common.{refl, arith}
 use Rattle.wire.proofs.Cuts.{reads_by, reads_none}
 use Rattle.frames.proofs.lines.FrameReader.next_line.Goals as goal
 
@@ -11,7 +11,7 @@ pub returns : goal.returns
 returns c =
     let xs = c.args.self.now.input.now in
     record {
-      reads = reads_by xs c.args.self.now.place c.split-at.result.1.now c.split-at-2.result.0.now c.first-line-length-length.result c.past-self.result c.if-self-input.false c.split-at.ensures.back c.first-line-length-length.ensures.value c.split-at-2.ensures.front c.past-self.ensures;
+      reads = reads_by xs c.args.self.now.place c.split_at.result.1.now c.split_at-2.result.0.now c.first_line_length-length.result c.past-self.result c.if-self-input.false c.split_at.ensures.back c.first_line_length-length.ensures.value c.split_at-2.ensures.front c.past-self.ensures;
       goes = omega arith;
       same = refl;
     }

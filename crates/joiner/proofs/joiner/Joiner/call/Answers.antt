@@ -1,4 +1,4 @@
-use Rattle.std.proofs.Common.{◌≡◌, sym, refl, subst}
+use Rattle.std.proofs.Common.{sym, refl, subst}
 use Rattle.refusals.specs.Said.{told}
 use Rattle.calls.specs.declared.call.Reply.TheVariants as reply
 use Rattle.order.specs.Desk.{Put, Take, Close, Renew}

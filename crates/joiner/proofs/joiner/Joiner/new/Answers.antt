@@ -19,11 +19,14 @@ idle_counted xs q n e f = ap length f ∙ subst (λ (z : List FeedState). Counte
 idle_queued : (xs : List FeedState) (q : List ℕ) (n : ℕ) → xs ≡ replicate n Idle → q ≡ [] → Queued xs q
 idle_queued xs q n e f = subst (λ (z : List ℕ). Queued xs z) (sym f) (subst (λ (z : List FeedState). Queued z []) (sym e) (none_queued n))
 
-pub invariant-of-result : goal.invariant-of-result
-invariant-of-result g c =
-    let xs = feeds_of c.all-idle.result in
+pub invariant_of-result : goal.invariant_of-result
+invariant_of-result g c =
+    let xs = feeds_of c.all_idle.result in
     let q = queue_of c.new.result in
-    (idle_counted xs q c.admit-count.result c.all-idle.ensures c.new.ensures, (idle_queued xs q c.admit-count.result c.all-idle.ensures c.new.ensures, tt))
+    record {
+      counted = idle_counted xs q c.admit-count.result c.all_idle.ensures c.new.ensures;
+      queued = idle_queued xs q c.admit-count.result c.all_idle.ensures c.new.ensures;
+    }
 
 fresh_state : (t : Table) (xs : List FeedState) (q : List ℕ) (count told n k : ℕ) → t ≡ starting → xs ≡ replicate count Idle → q ≡ [] → count ≡ admits told k → admits told k ≡ admits n k
     → ◌≡◌ {A = State} (record { table = t; feeds = xs; queue = q; last = 0 }) (record { table = starting; feeds = replicate (admits n k) Idle; queue = []; last = 0 })
@@ -36,7 +39,7 @@ returns g c =
     let m = g.B.Bank.meaning c.args.bank in
     let slots = c.args.shelf.now.slots.now in
     record {
-      fresh = fresh_state (table_of c.starting.result) (feeds_of c.all-idle.result) (queue_of c.new.result) c.admit-count.result c.feeds.result m.feeds (length slots) c.starting.ensures.is c.all-idle.ensures c.new.ensures (c.admit-count.ensures.is ∙ ap (admits c.feeds.result) c.len.ensures) (ap (λ (z : ℕ). admits z (length slots)) c.feeds.ensures ∙ admits_cut m.feeds (length slots));
+      fresh = fresh_state (table_of c.starting.result) (feeds_of c.all_idle.result) (queue_of c.new.result) c.admit-count.result c.feeds.result m.feeds (length slots) c.starting.ensures.is c.all_idle.ensures c.new.ensures (c.admit-count.ensures.is ∙ ap (admits c.feeds.result) c.len.ensures) (ap (λ (z : ℕ). admits z (length slots)) c.feeds.ensures ∙ admits_cut m.feeds (length slots));
       kept = refl;
       promise = order_kept m (g.B.Bank.lawful c.args.bank) starting (subst Sound c.starting.ensures.is c.starting.ensures.sound) slots;
     }

@@ -9,16 +9,16 @@ use Rattle.joiner.proofs.Putting.{found}
 use Rattle.joiner.proofs.Taking.{released_as, waits_here, take_counted, take_queued, take_answered, take_state}
 use Rattle.joiner.proofs.joiner.Joiner.take.Goals as goal
 
-pub returns-in-default-state : goal.returns-in-default-state
-returns-in-default-state g c =
+pub returns-in_default-state : goal.returns-in_default-state
+returns-in_default-state g c =
     let j = c.args.self.now in
-    absurd (waits_here (feeds_of j.feeds) (queue_of j.queue) c.in-Some.feed c.in-Some.ensures j.queued c.in-default-state.ensures)
+    absurd (waits_here (feeds_of j.feeds) (queue_of j.queue) c.in-Some.feed c.in-Some.ensures j.queued c.in_default-state.ensures)
 
 pub store-requires : goal.store-requires
 store-requires g c = (found (feeds_of c.args.self.now.feeds) c.in-Some.feed c.in-Some-state.state c.in-Some-state.ensures).0
 
-pub invariant-of-self : goal.invariant-of-self
-invariant-of-self g c =
+pub invariant_of-self : goal.invariant_of-self
+invariant_of-self g c =
     let j = c.args.self.now in
     let xs = feeds_of j.feeds in
     let q = queue_of j.queue in
@@ -26,10 +26,10 @@ invariant-of-self g c =
     let v = c.in-Some-state.state in
     let row : feeds_of c.store.new.self ≡ set xs f (released v) = c.store.ensures ∙ ap (set xs f) (c.change.ensures.after ∙ released_as v) in
     let counted = take_counted xs q f c.in-Some.ensures j.queued v c.in-Some-state.ensures j.counted in
-    let queued = take_queued xs q f c.in-Some.ensures j.queued v c.in-Some-state.ensures in (
-      subst (λ (z : List ℕ). Counted (feeds_of c.store.new.self) (length z)) (sym c.pop.ensures) (subst (λ (ys : List FeedState). Counted ys (length (rest q))) (sym row) counted),
-      (subst (λ (z : List ℕ). Queued (feeds_of c.store.new.self) z) (sym c.pop.ensures) (subst (λ (ys : List FeedState). Queued ys (rest q)) (sym row) queued), tt),
-    )
+    let queued = take_queued xs q f c.in-Some.ensures j.queued v c.in-Some-state.ensures in record {
+      counted = subst (λ (z : List ℕ). Counted (feeds_of c.store.new.self) (length z)) (sym c.pop.ensures) (subst (λ (ys : List FeedState). Counted ys (length (rest q))) (sym row) counted);
+      queued = subst (λ (z : List ℕ). Queued (feeds_of c.store.new.self) z) (sym c.pop.ensures) (subst (λ (ys : List FeedState). Queued ys (rest q)) (sym row) queued);
+    }
 
 pub bounds-shelf-feed : goal.bounds-shelf-feed
 bounds-shelf-feed g c =
@@ -38,8 +38,8 @@ bounds-shelf-feed g c =
     let inside = (found (feeds_of j.feeds) c.in-Some.feed c.in-Some-state.state c.in-Some-state.ensures).0 in
     omega arith
 
-pub offset-bounds-shelf-feed : goal.offset-bounds-shelf-feed
-offset-bounds-shelf-feed g c =
+pub offset_bounds-shelf-feed : goal.offset_bounds-shelf-feed
+offset_bounds-shelf-feed g c =
     let i : c.in-Some.feed < length c.args.shelf.now.slots.now = bounds-shelf-feed g c in
     search rules
 
@@ -56,8 +56,8 @@ returns g c =
     let body = get_or slots f c.index-shelf-feed.result in
     let row : feeds_of c.store.new.self ≡ set (feeds_of j.feeds) f (released v) = c.store.ensures ∙ ap (set (feeds_of j.feeds) f) (c.change.ensures.after ∙ released_as v) in
     record {
-      answer = take_answered s slots f c.in-Some.ensures v at c.held-tick-tick.result body room c.held-tick-tick.ensures (get_d_any slots f c.index-shelf-feed.result body inside);
-      state = take_state s slots f c.in-Some.ensures v at (feeds_of c.store.new.self) (queue_of c.pop.new.self) c.held-tick-tick.result body row c.pop.ensures;
+      answer = take_answered s slots f c.in-Some.ensures v at c.held_tick-tick.result body room c.held_tick-tick.ensures (get_d_any slots f c.index-shelf-feed.result body inside);
+      state = take_state s slots f c.in-Some.ensures v at (feeds_of c.store.new.self) (queue_of c.pop.new.self) c.held_tick-tick.result body row c.pop.ensures;
       slots = refl;
       kept = refl;
       lent = refl;

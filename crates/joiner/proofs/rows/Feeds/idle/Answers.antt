@@ -1,4 +1,4 @@
-use Rattle.std.proofs.Common.{◌≡◌, ℕ, ◌<◌, ◌≤◌, map, length, take, sym, ap, ◌∙◌, subst, arith, length-take}
+use Rattle.std.proofs.Common.{ℕ, ◌<◌, ◌≤◌, map, length, take, sym, ◌∙◌, subst, arith, length-take}
 use lib.Count.{ones, count_trailing_zeros}
 use Rattle.order.specs.Queue.{is_idle, idle_mask, IdleFeeds}
 use Rattle.order.proofs.Masks.{masked, none_masked, some_ones}

@@ -1,4 +1,4 @@
-use Rattle.std.proofs.Common.{◌≡◌, ◌<◌, refl, add-one, arith}
+use Rattle.std.proofs.Common.{◌<◌, refl, add-one, arith}
 use Rattle.joiner.proofs.Rings.{ring_push, ring_length}
 use Rattle.joiner.proofs.rows.Queue.push.Goals as goal
 

@@ -15,7 +15,7 @@ loop-line-init g c =
     let reader = c.new-reader.result in
     let m = g.B.Bank.meaning c.new-joiner.result.bank in
     let first = desk_of c.new-joiner.result c.new-shelf.result.slots.now in
-    let whole : reader.input.now ≡ xs = c.new-reader.ensures.0 ∙ cut c.args.input.now c.split-at.result.0.now c.min.result c.min.ensures c.split-at.ensures.front in
+    let whole : reader.input.now ≡ xs = c.new-reader.ensures.0 ∙ cut c.args.input.now c.split_at.result.0.now c.min.result c.min.ensures c.split_at.ensures.front in
     let lines : lines_of xs ≡ lines_of (drop reader.place reader.input.now) = ap (λ (ys : List ℕ). lines_of ys) (sym whole) ∙ ap (λ (k : ℕ). lines_of (drop k reader.input.now)) (sym c.new-reader.ensures.1) in (
       whole,
       refl,
@@ -26,22 +26,22 @@ pub loop-line-preserved : goal.loop-line-preserved
 loop-line-preserved g c =
     let xs = take input_limit c.args.input.now in
     let reader = c.loop-line.reader in
-    let then = c.next-line.new.self in
+    let then = c.next_line.new.self in
     let next = c.in-Some.ensures in
     let b = c.new-joiner.result.bank in
     let m = g.B.Bank.meaning b in
     let first = desk_of c.new-joiner.result c.new-shelf.result.slots.now in
     let d = desk_of c.loop-line.joiner c.loop-line.shelf.slots.now in
-    let d' = desk_of c.answer-line-answer.new.joiner c.answer-line-answer.new.shelf.slots.now in
-    let said = c.answer-line-answer.ensures.answers in
-    let answers : Answers m d c.in-Some.line.now c.answer-line-answer.result said.0 d' = subst (λ z. Answers (g.B.Bank.meaning z) d c.in-Some.line.now c.answer-line-answer.result said.0 d') c.loop-line.invariant.1 said.1 in (
+    let d' = desk_of c.answer_line-answer.new.joiner c.answer_line-answer.new.shelf.slots.now in
+    let said = c.answer_line-answer.ensures.answers in
+    let answers : Answers m d c.in-Some.line.now c.answer_line-answer.result said.0 d' = subst (λ z. Answers (g.B.Bank.meaning z) d c.in-Some.line.now c.answer_line-answer.result said.0 d') c.loop-line.invariant.1 said.1 in (
       next.same ∙ c.loop-line.invariant.0,
-      c.answer-line-answer.ensures.kept ∙ c.loop-line.invariant.1,
+      c.answer_line-answer.ensures.kept ∙ c.loop-line.invariant.1,
       (
         c.loop-line.invariant.2.0 ++ said.0,
-        one_more m first xs (vec_items c.loop-line.out) (vec_items c.write-answer.new.out) c.in-Some.line.now c.loop-line.invariant.2.0 said.0 d d'
-            (lines_of (drop reader.place reader.input.now)) (lines_of (drop then.place then.input.now)) c.answer-line-answer.result
-            c.loop-line.invariant.2.1 (next.reads.lines_left ∙ ap (λ (ys : List ℕ). c.in-Some.line.now ∷ lines_of (drop then.place ys)) (sym next.same)) answers c.in-ok-write-answer.ensures,
+        one_more m first xs (vec_items c.loop-line.out) (vec_items c.write_answer.new.out) c.in-Some.line.now c.loop-line.invariant.2.0 said.0 d d'
+            (lines_of (drop reader.place reader.input.now)) (lines_of (drop then.place then.input.now)) c.answer_line-answer.result
+            c.loop-line.invariant.2.1 (next.reads.lines_left ∙ ap (λ (ys : List ℕ). c.in-Some.line.now ∷ lines_of (drop then.place ys)) (sym next.same)) answers c.in_ok-write_answer.ensures,
       ),
     )
 
@@ -55,7 +55,7 @@ returns g c =
     let d = desk_of c.loop-line.joiner c.loop-line.shelf.slots.now in
     let vs = c.loop-line.invariant.2.0 in
     let out = vec_items c.loop-line.out in
-    let end = none_left reader.input.now reader.place c.next-line.new.self.place c.in-default.ensures.reads in
+    let end = none_left reader.input.now reader.place c.next_line.new.self.place c.in_default.ensures.reads in
     let went = ended (g.B.Bank.meaning c.new-joiner.result.bank) first xs out vs d (lines_of (drop reader.place reader.input.now)) c.loop-line.invariant.2.1 end in
     let ours : Session m first (lines_of xs) out vs d = subst (λ z. Session (g.B.Bank.meaning z) first (lines_of xs) out vs d) c.new-joiner.ensures.kept went in
     let fresh : first ≡ made m starting slots = λ i. record { joiner = c.new-joiner.ensures.fresh i; slots = slots } in

@@ -55,7 +55,7 @@ fn calls_are_written_as_frames(rt: HostRuntime) -> Result<(), Fail> {
     )?;
     assert_eq!(rt;
         text.as_slice(),
-        b"010200000000586846800000000000000000010000002a0007\n02ff\n03\n040100004e7900004f2e\n"
+        b"010200000000586846800000000000000000010000002a0007\n02ff\n03\n040100004e7900004f2e\n".as_slice()
     );
     Ok(())
 }
@@ -109,7 +109,7 @@ fn answers_are_written_as_lines(rt: HostRuntime) -> Result<(), Fail> {
     )?;
     assert_eq!(rt;
         text.as_slice(),
-        b"0001\n010014957cc4ce003200\n010b02010000000000000001\n03000214957cc4ce003200010000002a0007\n031106\n0200\n0416\n"
+        b"0001\n010014957cc4ce003200\n010b02010000000000000001\n03000214957cc4ce003200010000002a0007\n031106\n0200\n0416\n".as_slice()
     );
     Ok(())
 }
@@ -117,10 +117,10 @@ fn answers_are_written_as_lines(rt: HostRuntime) -> Result<(), Fail> {
 #[test]
 fn lines_end_at_line_feeds_or_the_end(rt: HostRuntime) {
     let mut reader = FrameReader::new(b"03\n\n02\r\n01");
-    assert_eq!(rt; reader.next_line(), Some(b"03"));
-    assert_eq!(rt; reader.next_line(), Some(b""));
-    assert_eq!(rt; reader.next_line(), Some(b"02\r"));
-    assert_eq!(rt; reader.next_line(), Some(b"01"));
+    assert_eq!(rt; reader.next_line(), Some(b"03".as_slice()));
+    assert_eq!(rt; reader.next_line(), Some(b"".as_slice()));
+    assert_eq!(rt; reader.next_line(), Some(b"02\r".as_slice()));
+    assert_eq!(rt; reader.next_line(), Some(b"01".as_slice()));
     assert_eq!(rt; reader.next_line(), None);
     assert_eq!(rt; FrameReader::new(b"").next_line(), None);
 }

@@ -7,7 +7,7 @@ use std::test::Fail;
 fn an_empty_input_has_no_answers(rt: HostRuntime) -> Result<(), Fail> {
     assert_eq!(rt;
         answer_lines(rt.alloc(), STANDARD_BANK, b"")?.as_slice(),
-        b""
+        b"".as_slice()
     );
     Ok(())
 }
@@ -16,7 +16,7 @@ fn an_empty_input_has_no_answers(rt: HostRuntime) -> Result<(), Fail> {
 fn a_line_feed_closes_an_empty_line(rt: HostRuntime) -> Result<(), Fail> {
     assert_eq!(rt;
         answer_lines(rt.alloc(), STANDARD_BANK, b"\n03\n")?.as_slice(),
-        b"0001\n031101\n"
+        b"0001\n031101\n".as_slice()
     );
     Ok(())
 }

@@ -1,7 +1,7 @@
 -- what every run keeps: the records handed out and then those of the queue are the accepted ones, in order
 use Rattle.std.proofs.Common.{◌≡◌, ℕ, zero, suc, ◌<◌, ◌≤◌, cond, eqb, ◌⊎◌, List, [], ◌∷◌, ◌++◌, map, length, get_or, set, Some, Ok, Err, filter, Option, Result, sym, refl, ap, ◌∙◌, subst, inl, inr, append_assoc, append-nil, arith, length-set, get_or-set_other, get_or-set_same}
 use lib.Seq.{append_snoc}
-use Rattle.std.specs.List.{AllByRecursion as All, slice_get}
+use Rattle.std.specs.List.{AllByRecursion, slice_get}
 use Rattle.std.proofs.lemmas.Bool.{eq-eqb, ne_eqb, cases_eq}
 use Rattle.std.proofs.lemmas.List.Elements.{filter-append}
 use Rattle.std.proofs.ByRecursion.{All-push, All-weaker}
@@ -43,8 +43,8 @@ pub record Kept {T : Type 0} (m : BankMeaning) (vs : List (Event T)) (d : Desk T
   pub queue : d.joiner.queue ≡ map feed_of left
   pub wait : (f : ℕ) → map pair (of_feed f left) ≡ waiting d f
   pub rise : Climbs tick_of (gone ++ left)
-  pub past : All (λ r. tick_of r ≤ d.joiner.last) (gone ++ left)
-  pub good : All (Good m d.joiner) (gone ++ left)
+  pub past : AllByRecursion (λ r. tick_of r ≤ d.joiner.last) (gone ++ left)
+  pub good : AllByRecursion (Good m d.joiner) (gone ++ left)
   pub sound : Sound d.joiner.table
   pub room : length d.joiner.feeds ≤ length d.slots
 
@@ -128,13 +128,13 @@ module _ {T : Type 0} (m : BankMeaning) (vs : List (Event T)) (d : Desk T) (k : 
             ap (λ b. waiting d h ++ map pair (cond b (new ∷ []) [])) (ne_eqb f h (λ q. ne (sym q))) ∙ append-nil (waiting d h)
             ∙ sym (waiting_other d put_state (set d.slots f x) f h (Holding t) x ne refl refl)
 
-    put_all : (P : Record T → Type 0) → All P (k.gone ++ k.left) → P new → All P (k.gone ++ (k.left ++ new ∷ []))
-    put_all P h n = subst (All P) (append_assoc k.gone k.left (new ∷ [])) (All-push P (k.gone ++ k.left) new h n)
+    put_all : (P : Record T → Type 0) → AllByRecursion P (k.gone ++ k.left) → P new → AllByRecursion P (k.gone ++ (k.left ++ new ∷ []))
+    put_all P h n = subst (AllByRecursion P) (append_assoc k.gone k.left (new ∷ [])) (All-push P (k.gone ++ k.left) new h n)
 
-    put_good : All (Good m put_state) (k.gone ++ k.left)
+    put_good : AllByRecursion (Good m put_state) (k.gone ++ k.left)
     put_good = All-weaker (Good m d.joiner) (Good m put_state) (λ r h. (let i = h.0 in omega (arith, length-set d.joiner.feeds f (Holding t)), h.1, h.2)) (k.gone ++ k.left) k.good
 
-    put_past : All (λ r. tick_of r ≤ t) (k.gone ++ k.left)
+    put_past : AllByRecursion (λ r. tick_of r ≤ t) (k.gone ++ k.left)
     put_past = All-weaker (λ r. tick_of r ≤ d.joiner.last) (λ r. tick_of r ≤ t) (λ r h. let h' : tick_of r ≤ d.joiner.last = h in let l = ok.later in omega arith) (k.gone ++ k.left) k.past
 
     put_kept : Kept m (vs ++ Put f p x (Ok t) ∷ []) (after_put d f x (Ok t))
@@ -274,7 +274,7 @@ module _ {T : Type 0} (m : BankMeaning) (vs : List (Event T)) (d : Desk T) (k : 
     same_size : length taken.joiner.feeds ≡ length d.joiner.feeds
     same_size = length-set d.joiner.feeds g.feed (released (feed_state d.joiner g.feed))
 
-    take_good : All (Good m taken.joiner) (k.gone ++ k.left)
+    take_good : AllByRecursion (Good m taken.joiner) (k.gone ++ k.left)
     take_good = All-weaker (Good m d.joiner) (Good m taken.joiner) (λ r h. (let i = h.0 in omega (arith, same_size), h.1, h.2)) (k.gone ++ k.left) k.good
 
     take_kept : Kept m (vs ++ Take (Ok g) ∷ []) taken
@@ -286,8 +286,8 @@ module _ {T : Type 0} (m : BankMeaning) (vs : List (Event T)) (d : Desk T) (k : 
       queue = o.after;
       wait = take_wait;
       rise = subst (Climbs tick_of) take_split k.rise;
-      past = subst (All (λ r. tick_of r ≤ d.joiner.last)) take_split k.past;
-      good = subst (All (Good m taken.joiner)) take_split take_good;
+      past = subst (AllByRecursion (λ r. tick_of r ≤ d.joiner.last)) take_split k.past;
+      good = subst (AllByRecursion (Good m taken.joiner)) take_split take_good;
       sound = k.sound;
       room = let z = k.room in omega (arith, same_size);
     }

@@ -1,6 +1,6 @@
 -- lemmas on lists
 use Rattle.std.proofs.Common.{◌≡◌, ℕ, zero, suc, ◌<◌, ◌≤◌, Bool, true, false, cond, List, [], ◌∷◌, ◌++◌, map, length, get_or, set, Some, None, filter, sym, refl, ap, ◌∙◌, subst, le_of_suc-le-suc, not-suc-le-zero, arith}
-use Rattle.std.specs.List.{AllByRecursion as All, slice_get}
+use Rattle.std.specs.List.{AllByRecursion, slice_get}
 use Rattle.order.specs.History.{NeverFalls}
 
 module _ {A : Type 0} where
@@ -19,7 +19,7 @@ module _ {A : Type 0} where
   pub tail_same : {a b : A} {xs ys : List A} → a ∷ xs ≡ b ∷ ys → xs ≡ ys
   tail_same e = cc
 
-  pub all_nth : (P : A → Type 0) (xs : List A) (n : ℕ) (a : A) → All P xs → slice_get xs n ≡ Some a → P a
+  pub all_nth : (P : A → Type 0) (xs : List A) (n : ℕ) (a : A) → AllByRecursion P xs → slice_get xs n ≡ Some a → P a
   all_nth P [] n a h e = absurd (none≢some e)
   all_nth P (x ∷ xs) zero a h e = subst P (some_same e) h.0
   all_nth P (x ∷ xs) (suc n) a h e = all_nth P xs n a h.1 e
@@ -39,7 +39,7 @@ module _ {A : Type 0} where
   nth_seam (x ∷ xs) y ys = nth_seam xs y ys
 
   -- past the seam an element is one of the second list
-  pub nth_after : (P : A → Type 0) (xs ys : List A) (n : ℕ) (a : A) → All P ys → length xs ≤ n → slice_get (xs ++ ys) n ≡ Some a → P a
+  pub nth_after : (P : A → Type 0) (xs ys : List A) (n : ℕ) (a : A) → AllByRecursion P ys → length xs ≤ n → slice_get (xs ++ ys) n ≡ Some a → P a
   nth_after P [] ys n a h l e = all_nth P ys n a h e
   nth_after P (x ∷ xs) ys zero a h l e = absurd (not-suc-le-zero l)
   nth_after P (x ∷ xs) ys (suc n) a h l e = nth_after P xs ys n a h (le_of_suc-le-suc l) e
@@ -56,24 +56,24 @@ module _ {A : Type 0} where
   nth_set_other (x ∷ xs) (suc i) zero a h = refl
   nth_set_other (x ∷ xs) (suc i) (suc j) a h = nth_set_other xs i j a (λ e. h (ap suc e))
 
-  pub all_left : (P : A → Type 0) (xs ys : List A) → All P (xs ++ ys) → All P xs
+  pub all_left : (P : A → Type 0) (xs ys : List A) → AllByRecursion P (xs ++ ys) → AllByRecursion P xs
   all_left P [] ys h = tt
   all_left P (x ∷ xs) ys h = (h.0, all_left P xs ys h.1)
 
-  pub all_right : (P : A → Type 0) (xs ys : List A) → All P (xs ++ ys) → All P ys
+  pub all_right : (P : A → Type 0) (xs ys : List A) → AllByRecursion P (xs ++ ys) → AllByRecursion P ys
   all_right P [] ys h = h
   all_right P (x ∷ xs) ys h = all_right P xs ys h.1
 
   -- each is at most each later one, by the measure w
   abbrev pub Climbs : (A → ℕ) → List A → Type 0
   Climbs w [] = Unit {0}
-  Climbs w (x ∷ xs) = All (λ y. w x ≤ w y) xs × Climbs w xs
+  Climbs w (x ∷ xs) = AllByRecursion (λ y. w x ≤ w y) xs × Climbs w xs
 
-  pub climbs_push : (w : A → ℕ) (xs : List A) (a : A) → Climbs w xs → All (λ x. w x ≤ w a) xs → Climbs w (xs ++ a ∷ [])
+  pub climbs_push : (w : A → ℕ) (xs : List A) (a : A) → Climbs w xs → AllByRecursion (λ x. w x ≤ w a) xs → Climbs w (xs ++ a ∷ [])
   climbs_push w [] a h l = (tt, tt)
   climbs_push w (x ∷ xs) a h l = (joined xs h.0, climbs_push w xs a h.1 l.1)
     where
-      joined : (zs : List A) → All (λ y. w x ≤ w y) zs → All (λ y. w x ≤ w y) (zs ++ a ∷ [])
+      joined : (zs : List A) → AllByRecursion (λ y. w x ≤ w y) zs → AllByRecursion (λ y. w x ≤ w y) (zs ++ a ∷ [])
       joined [] k = (l.0, tt)
       joined (z ∷ zs) k = (k.0, joined zs k.1)
 
@@ -85,7 +85,7 @@ module _ {A : Type 0} where
   climbs_right w [] ys h = h
   climbs_right w (x ∷ xs) ys h = climbs_right w xs ys h.1
 
-  pub all_at : (w : A → ℕ) (b : ℕ) (xs : List A) (j : ℕ) → All (λ y. b ≤ w y) xs → j < length (map w xs) → b ≤ get_or (map w xs) j 0
+  pub all_at : (w : A → ℕ) (b : ℕ) (xs : List A) (j : ℕ) → AllByRecursion (λ y. b ≤ w y) xs → j < length (map w xs) → b ≤ get_or (map w xs) j 0
   all_at w b [] j h l = absurd (not-suc-le-zero l)
   all_at w b (x ∷ xs) zero h l = h.0
   all_at w b (x ∷ xs) (suc j) h l = all_at w b xs j h.1 (le_of_suc-le-suc l)

@@ -2,7 +2,7 @@
 use Rattle.std.proofs.Common.{◌≡◌, ℕ, zero, suc, ◌+◌, ◌-◌, ◌<◌, ◌≤◌, Bool, true, false, cond, ◌||◌, eqb, ltb, ◌⊎◌, ◌↔◌, List, [], ◌∷◌, ◌++◌, map, length, get_or, take, replicate, Some, Ok, Err, filter, Option, sym, refl, ap, ◌∙◌, subst, inl, inr, append_assoc, append-nil, not-suc-le-zero, arith, length-append}
 use lib.ListN.{length-map, length-replicate}
 use lib.Seq.{append_snoc}
-use Rattle.std.specs.List.{AllByRecursion as All, slice_get}
+use Rattle.std.specs.List.{AllByRecursion, slice_get}
 use Rattle.std.proofs.lemmas.Bool.{eq-eqb, eqb-true, ltb-false, cases_lt}
 use Rattle.std.proofs.lemmas.List.Elements.{filter-append}
 use Rattle.std.proofs.ByRecursion.{All-weaker, all_kept_by, kept_by_passes}
@@ -82,9 +82,9 @@ module _ {T : Type 0} (m : BankMeaning) (law : LawfulBank m) (start : Table) (so
   -- ---- a run that has ended
   module _ (vs : List (Event T)) (d : Desk T) (k : Kept m vs d) where
     -- what holds of each accepted record holds of the nth of a feed
-    nth_accepted : (P : Record T → Type 0) → All P (k.gone ++ k.left) → (f n : ℕ) (r : Record T) → slice_get (accepted_of f vs) n ≡ Some r → P r × (r.feed ≡ f)
+    nth_accepted : (P : Record T → Type 0) → AllByRecursion P (k.gone ++ k.left) → (f n : ℕ) (r : Record T) → slice_get (accepted_of f vs) n ≡ Some r → P r × (r.feed ≡ f)
     nth_accepted P h f n r e =
-        let all : All P (accepted vs) = subst (All P) (sym k.split) h in (
+        let all : AllByRecursion P (accepted vs) = subst (AllByRecursion P) (sym k.split) h in (
           all_nth P (accepted_of f vs) n r (all_kept_by (λ q. eqb q.feed f) P (accepted vs) all) e,
           eqb-true r.feed f (all_nth (λ q. eqb q.feed f ≡ true) (accepted_of f vs) n r (kept_by_passes (λ q. eqb q.feed f) (accepted vs)) e),
         )
@@ -106,8 +106,8 @@ module _ {T : Type 0} (m : BankMeaning) (law : LawfulBank m) (start : Table) (so
         let n : length (given vs) ≡ length k.gone = ap length k.gave ∙ length-map k.gone handed in
         k.gave ∙ ap (map handed) (sym (ap (λ z. take z (accepted vs)) n ∙ ap (take (length k.gone)) k.split ∙ take_at_seam k.gone k.left))
 
-    all_ours : All (λ r. (r.feed < length d.joiner.feeds) × Count r.tick) (accepted vs)
-    all_ours = subst (All (λ r. (r.feed < length d.joiner.feeds) × Count r.tick)) (sym k.split)
+    all_ours : AllByRecursion (λ r. (r.feed < length d.joiner.feeds) × Count r.tick) (accepted vs)
+    all_ours = subst (AllByRecursion (λ r. (r.feed < length d.joiner.feeds) × Count r.tick)) (sym k.split)
         (All-weaker (Good m d.joiner) (λ r. (r.feed < length d.joiner.feeds) × Count r.tick)
         (λ r h. (h.0, (law r.feed h.1).reads_counts k.sound h.2)) (k.gone ++ k.left) k.good)
 
@@ -167,7 +167,7 @@ module _ {T : Type 0} (m : BankMeaning) (law : LawfulBank m) (start : Table) (so
     seam_of : (f : ℕ) → accepted_of f (before ++ v ∷ after) ≡ of_feed f k.gone ++ of_feed f (o.head ∷ more)
     seam_of f = ap (of_feed f) seam ∙ filter-append (λ r. eqb r.feed f) k.gone (o.head ∷ more)
 
-    climbing : All (λ q. tick_of o.head ≤ tick_of q) (o.head ∷ more)
+    climbing : AllByRecursion (λ q. tick_of o.head ≤ tick_of q) (o.head ∷ more)
     climbing =
         let c : Climbs tick_of (k.gone ++ (o.head ∷ more)) = subst (Climbs tick_of) (sym e.split ∙ seam) e.rise in
         (omega arith, (climbs_right tick_of k.gone (o.head ∷ more) c).0)

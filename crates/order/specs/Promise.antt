@@ -1,6 +1,6 @@
 -- The promise about the order of records, over every list of calls.
 use Rattle.std.specs.Prelude.{◌≡◌, ℕ, ◌+◌, ◌-◌, ◌<◌, ◌≤◌, ◌↔◌, List, ◌∷◌, ◌++◌, map, length, take, Some, Ok}
-use Rattle.std.specs.List.{AllByRecursion as All, slice_get}
+use Rattle.std.specs.List.{AllByRecursion, slice_get}
 use Rattle.leap.specs.Table.{Table, Sound}
 use Rattle.calls.specs.declared.call.Handed.{Handed}
 use Rattle.clocks.specs.Counts.{Count}
@@ -36,7 +36,7 @@ pub record OrderKept {T : Type 0} (m : BankMeaning) (vs : List (Event T)) (d : D
   -- over all feeds, what take gave are the first accepted records, in the order of the puts
   pub first_come : given vs ≡ map handed (take (length (given vs)) (accepted vs))
   -- accepted ticks are counts, and their feeds are the joiner's
-  pub ours : All (λ r. (r.feed < length d.joiner.feeds) × Count r.tick) (accepted vs)
+  pub ours : AllByRecursion (λ r. (r.feed < length d.joiner.feeds) × Count r.tick) (accepted vs)
   -- the leap table is still a sound one
   pub table_sound : Sound d.joiner.table
 

@@ -34,10 +34,10 @@ fn write_fields(out: &mut Vec<u8>, answer: Answer) -> Result<(), AllocError>
     }
 }
 
-fn write_ticked(out: &mut Vec<u8>, res: Result<u64, Refusal>) -> Result<(), AllocError>
-    ensures { OnOk result (out.new.items ≡ out.old.items ++ hexed (1 ∷ ticked_bytes res)) }
+fn write_ticked(out: &mut Vec<u8>, outcome: Result<u64, Refusal>) -> Result<(), AllocError>
+    ensures { OnOk result (out.new.items ≡ out.old.items ++ hexed (1 ∷ ticked_bytes outcome)) }
 {
-    match res {
+    match outcome {
         Ok(tick) => {
             write_head(out, 0x01, 0)?;
             write_u64(out, tick)?;
@@ -47,10 +47,10 @@ fn write_ticked(out: &mut Vec<u8>, res: Result<u64, Refusal>) -> Result<(), Allo
     }
 }
 
-fn write_done(out: &mut Vec<u8>, kind: u8, res: Result<(), Refusal>) -> Result<(), AllocError>
-    ensures { OnOk result (out.new.items ≡ out.old.items ++ hexed (kind ∷ done_bytes res)) }
+fn write_done(out: &mut Vec<u8>, kind: u8, outcome: Result<(), Refusal>) -> Result<(), AllocError>
+    ensures { OnOk result (out.new.items ≡ out.old.items ++ hexed (kind ∷ done_bytes outcome)) }
 {
-    match res {
+    match outcome {
         Ok(()) => write_head(out, kind, 0),
         Err(refusal) => write_refused(out, kind, refusal),
     }
@@ -58,11 +58,11 @@ fn write_done(out: &mut Vec<u8>, kind: u8, res: Result<(), Refusal>) -> Result<(
 
 fn write_handed(
     out: &mut Vec<u8>,
-    res: Result<Handed<LicenceEvent>, Refusal>,
+    outcome: Result<Handed<LicenceEvent>, Refusal>,
 ) -> Result<(), AllocError>
-    ensures { OnOk result (out.new.items ≡ out.old.items ++ hexed (3 ∷ handed_bytes res)) }
+    ensures { OnOk result (out.new.items ≡ out.old.items ++ hexed (3 ∷ handed_bytes outcome)) }
 {
-    match res {
+    match outcome {
         Ok(handed) => {
             write_head(out, 0x03, 0)?;
             write_byte(out, handed.feed)?;

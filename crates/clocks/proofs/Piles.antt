@@ -21,8 +21,8 @@ module _ (u v : RungMeaning) where
       let q = then_ok (u.shows t p.0) (λ y. then_do (u.reads t y) (λ z. then_do (lowered k (v.reads t z)) (λ _. Ok y))) p.2 in
       let r = then_ok (u.reads t q.0) (λ z. then_do (lowered k (v.reads t z)) (λ _. Ok q.0)) q.2 in
       let s = then_ok (lowered k (v.reads t r.0)) (λ _. Ok q.0) r.2 in
-      let same-y : q.0 ≡ y = same {x = Ok q.0} refl s.2 in
-      (p.0, r.0, s.0, lowered_ok k _ p.1, q.1 ∙ ap Ok same-y, subst (λ w. u.reads t w ≡ Ok r.0) same-y r.1, lowered_ok k _ s.1)
+      let same_y : q.0 ≡ y = same {x = Ok q.0} refl s.2 in
+      (p.0, r.0, s.0, lowered_ok k _ p.1, q.1 ∙ ap Ok same_y, subst (λ w. u.reads t w ≡ Ok r.0) same_y r.1, lowered_ok k _ s.1)
 
   show_made : {t : Table} {n x y z a : ℕ} → v.shows t n ≡ Ok x → u.shows t x ≡ Ok y → u.reads t y ≡ Ok z → v.reads t z ≡ Ok a → (pile u v).shows t n ≡ Ok y
   show_made p q r s = rw (p, q, r, s)

@@ -22,8 +22,8 @@ module _ (f : FormMeaning) (v : RungMeaning) where
       let q = then_ok (f.shows t p.0) (λ y. then_do (f.reads t y) (λ z. then_do (lowered 1 (v.reads t z)) (λ _. Ok y))) p.2 in
       let r = then_ok (f.reads t q.0) (λ z. then_do (lowered 1 (v.reads t z)) (λ _. Ok q.0)) q.2 in
       let s = then_ok (lowered 1 (v.reads t r.0)) (λ _. Ok q.0) r.2 in
-      let same-y : q.0 ≡ y = same {x = Ok q.0} refl s.2 in
-      (p.0, r.0, s.0, lowered_ok 1 _ p.1, q.1 ∙ ap Ok same-y, subst (λ w. f.reads t w ≡ Ok r.0) same-y r.1, lowered_ok 1 _ s.1)
+      let same_y : q.0 ≡ y = same {x = Ok q.0} refl s.2 in
+      (p.0, r.0, s.0, lowered_ok 1 _ p.1, q.1 ∙ ap Ok same_y, subst (λ w. f.reads t w ≡ Ok r.0) same_y r.1, lowered_ok 1 _ s.1)
 
   show_made : {t : Table} {n x z a : ℕ} {y : Stamp} → v.shows t n ≡ Ok x → f.shows t x ≡ Ok y → f.reads t y ≡ Ok z → v.reads t z ≡ Ok a → (scale f v).shows t n ≡ Ok y
   show_made p q r s = rw (p, q, r, s)

@@ -76,16 +76,16 @@ module _ {T : Type 0} where
       e.joiner.queue ≡ d.joiner.queue → ((f : ℕ) → waiting e f ≡ waiting d f) → e.joiner.last ≡ d.joiner.last →
       ((r : Record T) → Good m d.joiner r → Good m e.joiner r) → Sound e.joiner.table →
       length e.joiner.feeds ≤ length e.slots → Kept m (vs ++ v ∷ []) e
-  quiet {m} {vs} {d} v e k a g same_queue same-wait same-last same_Good sound room = record {
+  quiet {m} {vs} {d} v e k a g same_queue same_wait same_last same_good sound room = record {
     gone = k.gone;
     left = k.left;
     split = accepted_none vs v a ∙ k.split;
     gave = given_none vs v g ∙ k.gave;
     queue = same_queue ∙ k.queue;
-    wait = λ f. k.wait f ∙ sym (same-wait f);
+    wait = λ f. k.wait f ∙ sym (same_wait f);
     rise = k.rise;
     past = All-weaker (λ r. tick_of r ≤ d.joiner.last) (λ r. tick_of r ≤ e.joiner.last) (λ r h. let h' : tick_of r ≤ d.joiner.last = h in omega arith) (k.gone ++ k.left) k.past;
-    good = All-weaker (Good m d.joiner) (Good m e.joiner) same_Good (k.gone ++ k.left) k.good;
+    good = All-weaker (Good m d.joiner) (Good m e.joiner) same_good (k.gone ++ k.left) k.good;
     sound = sound;
     room = room;
   }

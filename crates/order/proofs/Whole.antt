@@ -52,7 +52,7 @@ admits_few n k = go (ltb n 1 || ltb 64 n) (ltb k n) refl
     go false true e = (omega arith, omega arith)
     go false false e = (ltb-false k n e, omega arith)
 
-module _ {T : Type 0} (m : BankMeaning) (law : LawfulBank m) (start : Table) (sound-start : Sound start) where
+module _ {T : Type 0} (m : BankMeaning) (law : LawfulBank m) (start : Table) (sound_start : Sound start) where
   made_kept : (slots : List T) → Kept m [] (made m start slots)
   made_kept slots = record {
     gone = [];
@@ -64,7 +64,7 @@ module _ {T : Type 0} (m : BankMeaning) (law : LawfulBank m) (start : Table) (so
     rise = tt;
     past = tt;
     good = tt;
-    sound = sound-start;
+    sound = sound_start;
     room = let h = admits_few m.feeds (length slots) in omega (arith, length-replicate (admits m.feeds (length slots)) Idle);
   }
 

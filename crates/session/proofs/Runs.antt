@@ -12,20 +12,20 @@ use Rattle.session.specs.Session.{Answers, no_frame, replied, Session, over, ans
 
 module _ (m : BankMeaning) (first : Desk LicenceEvent) (xs : List ℕ) where
   -- out is the text so far, vs the events so far, d the desk now, and the lines are those to come
-  abbrev pub Goes_on : List ℕ → List (Event LicenceEvent) → Desk LicenceEvent → List (List ℕ) → Type 0
-  Goes_on out vs d lines = (more : List ℕ) (ws : List (Event LicenceEvent)) (e : Desk LicenceEvent) → Session m d lines more ws e → Session m first (lines_of xs) (out ++ more) (vs ++ ws) e
+  abbrev pub GoesOn : List ℕ → List (Event LicenceEvent) → Desk LicenceEvent → List (List ℕ) → Type 0
+  GoesOn out vs d lines = (more : List ℕ) (ws : List (Event LicenceEvent)) (e : Desk LicenceEvent) → Session m d lines more ws e → Session m first (lines_of xs) (out ++ more) (vs ++ ws) e
 
-  pub begun : (out : List ℕ) → out ≡ [] → Goes_on out [] first (lines_of xs)
+  pub begun : (out : List ℕ) → out ≡ [] → GoesOn out [] first (lines_of xs)
   begun out o more ws e s = subst (λ (ys : List ℕ). Session m first (lines_of xs) (ys ++ more) ws e) (sym o) s
 
-  pub one_more : (out out' line : List ℕ) (vs us : List (Event LicenceEvent)) (d d' : Desk LicenceEvent) (lines lines' : List (List ℕ)) (a : Answer) → Goes_on out vs d lines → lines ≡ line ∷ lines' → Answers m d line a us d' → out' ≡ out ++ answer_line a → Goes_on out' (vs ++ us) d' lines'
+  pub one_more : (out out' line : List ℕ) (vs us : List (Event LicenceEvent)) (d d' : Desk LicenceEvent) (lines lines' : List (List ℕ)) (a : Answer) → GoesOn out vs d lines → lines ≡ line ∷ lines' → Answers m d line a us d' → out' ≡ out ++ answer_line a → GoesOn out' (vs ++ us) d' lines'
   one_more out out' line vs us d d' lines lines' a g e w o more ws f s =
       let whole = g (answer_line a ++ more) (us ++ ws) f (subst (λ (ls : List (List ℕ)). Session m d ls (answer_line a ++ more) (us ++ ws) f) (sym e) (answered d d' f line lines' a more us ws w s)) in
       let text : out ++ (answer_line a ++ more) ≡ out' ++ more = sym (ap (λ (ys : List ℕ). ys ++ more) o ∙ append_assoc out (answer_line a) more) in
       subst (λ (ys : List ℕ). Session m first (lines_of xs) ys ((vs ++ us) ++ ws) f) text
       (subst (λ (zs : List (Event LicenceEvent)). Session m first (lines_of xs) (out ++ (answer_line a ++ more)) zs f) (sym (append_assoc vs us ws)) whole)
 
-  pub ended : (out : List ℕ) (vs : List (Event LicenceEvent)) (d : Desk LicenceEvent) (lines : List (List ℕ)) → Goes_on out vs d lines → lines ≡ [] → Session m first (lines_of xs) out vs d
+  pub ended : (out : List ℕ) (vs : List (Event LicenceEvent)) (d : Desk LicenceEvent) (lines : List (List ℕ)) → GoesOn out vs d lines → lines ≡ [] → Session m first (lines_of xs) out vs d
   ended out vs d lines g e =
       let whole = g [] [] d (subst (λ (ls : List (List ℕ)). Session m d ls [] [] d) (sym e) (over d)) in
       subst (λ (ys : List ℕ). Session m first (lines_of xs) ys vs d) (append-nil out)

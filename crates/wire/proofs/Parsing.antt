@@ -159,8 +159,8 @@ parsed_writes (kind ∷ xs) c t e = kind_parsed xs t.1 kind c e
 -- the bytes of a frame are bytes, and at most 25
 pub frame_fits : (c : Call LicenceEvent) → FitsFrame c → Bytes (frame_bytes c)
 frame_fits (Put feed stamp event) h =
-    let seat-tool = bytes_append (big_endian 4 event.seat) (big_endian 2 event.tool) (bytes_big 4 event.seat) (bytes_big 2 event.tool) in
-    let lo = bytes_append (big_endian 8 stamp.1) (event_bytes event) (bytes_big 8 stamp.1) (action_small event.action, seat-tool) in
+    let seat_tool = bytes_append (big_endian 4 event.seat) (big_endian 2 event.tool) (bytes_big 4 event.seat) (bytes_big 2 event.tool) in
+    let lo = bytes_append (big_endian 8 stamp.1) (event_bytes event) (bytes_big 8 stamp.1) (action_small event.action, seat_tool) in
     let hi = bytes_append (big_endian 8 stamp.0) (big_endian 8 stamp.1 ++ event_bytes event) (bytes_big 8 stamp.0) lo in
     (omega arith, (h.0, hi))
   where

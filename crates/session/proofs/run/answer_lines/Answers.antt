@@ -6,7 +6,7 @@ use Rattle.wire.specs.Lines.{lines_of, input_limit}
 use Rattle.wire.proofs.Cuts.{none_left}
 use Rattle.joiner.specs.Joiner.{desk_of}
 use Rattle.session.specs.Session.{Answers, Session}
-use Rattle.session.proofs.Runs.{Goes_on, begun, one_more, ended, session_run, cut}
+use Rattle.session.proofs.Runs.{GoesOn, begun, one_more, ended, session_run, cut}
 use Rattle.session.proofs.run.answer_lines.Goals as goal
 
 pub loop-line-init : goal.loop-line-init
@@ -19,7 +19,7 @@ loop-line-init g c =
     let lines : lines_of xs ≡ lines_of (drop reader.place reader.input.now) = ap (λ (ys : List ℕ). lines_of ys) (sym whole) ∙ ap (λ (k : ℕ). lines_of (drop k reader.input.now)) (sym c.new-reader.ensures.1) in (
       whole,
       refl,
-      ([], subst (λ (ls : List (List ℕ)). Goes_on m first xs (vec_items c.new-out.result) [] first ls) lines (begun m first xs (vec_items c.new-out.result) c.new-out.ensures.items)),
+      ([], subst (λ (ls : List (List ℕ)). GoesOn m first xs (vec_items c.new-out.result) [] first ls) lines (begun m first xs (vec_items c.new-out.result) c.new-out.ensures.items)),
     )
 
 pub loop-line-preserved : goal.loop-line-preserved

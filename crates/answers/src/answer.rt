@@ -1,5 +1,5 @@
 // Answers as lines of hexadecimal text.
-ghost use Rattle.std.specs.Prelude.{◌≡◌, [], ◌∷◌, ◌++◌, OnOk};
+ghost use Rattle.std.specs.Prelude.{◌≡◌, ◌∷◌, ◌++◌, OnOk};
 ghost use Rattle.wire.specs.Answer.{answer_line, answer_bytes, ticked_bytes, done_bytes, handed_bytes, refusal_bytes, fault_bytes};
 ghost use Rattle.wire.specs.Bytes.{hexed};
 

@@ -1,5 +1,5 @@
 // The feeds' states.
-ghost use Rattle.std.specs.Prelude.{◌≡◌, ◌<◌, ◌≤◌, true, false, length, set, replicate, filter, MatchOption, slice_set};
+ghost use Rattle.std.specs.Prelude.{◌≡◌, ◌<◌, ◌≤◌, true, false, length, replicate, filter, MatchOption, slice_set};
 ghost use Rattle.std.specs.List.{slice_get};
 ghost use Rattle.order.specs.declared.state.FeedState.TheVariants.{Idle};
 ghost use Rattle.order.specs.Queue.{is_idle, IdleFeeds};

@@ -1,7 +1,6 @@
 // Put: a record comes.
 ghost use Rattle.std.specs.Prelude.{◌≡◌, length};
 ghost use Rattle.refusals.specs.Said.{told};
-ghost use Rattle.order.specs.declared.state.FeedState.{FeedState as Feed};
 ghost use Rattle.order.specs.declared.state.FeedState.TheVariants.{Idle};
 ghost use Rattle.order.specs.Desk.{put_at, put_answer, after_put};
 ghost use Rattle.joiner.specs.Joiner.{state_of, desk_of};

@@ -1,7 +1,6 @@
 // Take: the record that has waited longest leaves.
 ghost use Rattle.std.specs.Prelude.{◌≡◌, Err};
 ghost use Rattle.refusals.specs.Said.{told, said};
-ghost use Rattle.calls.specs.declared.call.Handed.{Handed as Gives};
 ghost use Rattle.order.specs.Desk.{idle_count, waits_none, TakeAnswer, after_take};
 ghost use Rattle.joiner.specs.Joiner.{state_of};
 

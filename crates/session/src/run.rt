@@ -1,5 +1,5 @@
 // Frames in, answers out.
-ghost use Rattle.std.specs.Prelude.{ℕ, List, take, IfOk};
+ghost use Rattle.std.specs.Prelude.{List, take, IfOk};
 ghost use Rattle.leap.specs.Starting.{starting};
 ghost use Rattle.calls.specs.declared.event.LicenceEvent.{LicenceEvent as Body};
 ghost use Rattle.order.specs.Desk.{Desk, Event, made};

@@ -1,4 +1,4 @@
-use Rattle.std.proofs.Common.{◌≡◌, ℕ, ◌<◌, ◌≤◌, List, [], ◌∷◌, ◌++◌, length, set, Ok, Err, Result, sym, refl, ap, ◌∙◌, subst, arith, length-take, rules}
+use Rattle.std.proofs.Common.{◌≡◌, ℕ, ◌≤◌, List, [], ◌∷◌, ◌++◌, length, set, Ok, Err, Result, sym, refl, ap, ◌∙◌, subst, arith, length-take, rules}
 use Rattle.std.proofs.lemmas.Result.{err_from_is_err_and}
 use Rattle.refusals.specs.declared.refusal.Refusal.{Refusal}
 use Rattle.refusals.specs.Said.{said, told}
@@ -77,7 +77,7 @@ bounds-shelf-feed g c =
 
 pub offset_bounds-shelf-feed : goal.offset_bounds-shelf-feed
 offset_bounds-shelf-feed g c =
-    let i : c.args.feed < length c.args.shelf.now.slots.now = bounds-shelf-feed g c in
+    let inside = bounds-shelf-feed g c in
     search rules
 
 pub returns : goal.returns

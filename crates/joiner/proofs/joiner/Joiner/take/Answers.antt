@@ -40,7 +40,7 @@ bounds-shelf-feed g c =
 
 pub offset_bounds-shelf-feed : goal.offset_bounds-shelf-feed
 offset_bounds-shelf-feed g c =
-    let i : c.in-Some.feed < length c.args.shelf.now.slots.now = bounds-shelf-feed g c in
+    let inside = bounds-shelf-feed g c in
     search rules
 
 pub returns : goal.returns

@@ -2,26 +2,26 @@
 use leap::bulletin::Bulletin;
 use refusals::refusal::Refusal;
 
-// One call.
+/// One call.
 #[derive(Clone, Copy, PartialEq, Eq, Debug)]
 pub enum Call<T> {
-    // a record of this feed: its stamp, as the feed's clock writes it, and its body
+    /// a record of this feed: its stamp, as the feed's clock writes it, and its body
     Put {
         feed: u8,
         stamp: (u64, u64),
         body: T,
     },
-    // no more records of this feed
+    /// no more records of this feed
     Close {
         feed: u8,
     },
-    // the record that has waited longest
+    /// the record that has waited longest
     Take,
-    // news of the leap table
+    /// news of the leap table
     Renew(Bulletin),
 }
 
-// A record that take hands out.
+/// A record that take hands out.
 #[derive(Clone, Copy, PartialEq, Eq, Debug)]
 pub struct Handed<T> {
     pub feed: u8,
@@ -29,10 +29,10 @@ pub struct Handed<T> {
     pub body: T,
 }
 
-// What a call answered.
+/// What a call answered.
 #[derive(Clone, Copy, PartialEq, Eq, Debug)]
 pub enum Reply<T> {
-    // the record's tick
+    /// the record's tick
     Put(Result<u64, Refusal>),
     Close(Result<(), Refusal>),
     Take(Result<Handed<T>, Refusal>),

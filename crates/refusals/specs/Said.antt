@@ -55,6 +55,10 @@ said BadExpiry = plain 20
 said BadDay = plain 21
 said TableLimit = plain 22
 
+-- a clock's fault as the refusal of a call
+abbrev pub clock_refusal : Fault → Refusal
+clock_refusal f = Clock f
+
 -- an answer with its refusal as it is said
 abbrev pub told : {A : Type 0} → Result A Refusal → Result A Said
 told (Ok a) = Ok a

@@ -1,11 +1,14 @@
 -- Refusals in words, for people.
-use Rattle.std.specs.Prelude.{ℕ, List, codes}
+use Rattle.std.specs.Prelude.{ℕ, List, ◌++◌, codes}
+use Rattle.std.specs.Fmt.{decimal}
 use Rattle.refusals.specs.declared.fault.Cause.{Cause}
 use Rattle.refusals.specs.declared.fault.Cause.TheVariants.{Field, Window, NoCount, BeforeTable, Expired, NoSuchSecond, InsertedSecond, NotMultiple}
 use Rattle.refusals.specs.declared.fault.Way.{Way}
 use Rattle.refusals.specs.declared.fault.Way.TheVariants.{Reading, Showing}
+use Rattle.refusals.specs.declared.fault.Fault.{Fault}
 use Rattle.refusals.specs.declared.refusal.Refusal.{Refusal}
 use Rattle.refusals.specs.declared.refusal.Refusal.TheVariants.{Malformed, FeedCount, ShortShelf, NoFeed, FeedClosed, FeedHolding, Clock, Behind, LossTooLarge, NoneWaits, AllClosed, BadChange, BadExpiry, BadDay, TableLimit}
+use Rattle.refusals.specs.Said.{cause_number}
 
 abbrev pub cause_words : Cause → List ℕ
 cause_words Field = codes "a field of the stamp is wrong"
@@ -37,3 +40,7 @@ refusal_words BadChange = codes "a bulletin's change is above 2, or is 0 with a 
 refusal_words BadExpiry = codes "a bulletin's expiry lies before the present one, or after 84,006"
 refusal_words BadDay = codes "a bulletin's day does not lie strictly between the two expiries, or is no first of a month"
 refusal_words TableLimit = codes "the leap table has 64 entries, or the offset would leave 0 to 99"
+
+-- a fault with its number, the rung, the way and the count
+abbrev pub fault_words : Fault → List ℕ
+fault_words f = decimal (cause_number f.cause) ++ codes " by rung " ++ decimal f.rung ++ codes ", " ++ way_words f.way ++ codes " " ++ decimal f.count ++ codes ": " ++ cause_words f.cause

@@ -5,6 +5,7 @@ ghost use Rattle.refusals.specs.Said.{said, cause_number, way_number};
 use crate::fault::{Cause, Way};
 use crate::refusal::Refusal;
 
+// Methods and no `From`: `refusal.number()` says what the number is, and `u8::from(refusal)` does not.
 impl Cause {
     pub fn number(self) -> u8
         ensures { result ≡ cause_number self }

@@ -1,6 +1,8 @@
 -- A day number belongs to one date, and rises with the dates; the first days of months are 28 days apart.
-use Rattle.std.proofs.Common.{◌≡◌, ℕ, zero, suc, ◌+◌, ◌-◌, ◌*◌, ◌/◌, ◌%◌, ◌<◌, ◌≤◌, true, false, ◌&&◌, eqb, leb, ◌⊎◌, None, sym, refl, ap, ◌∙◌, inl, inr, add-zero, arith}
+use Rattle.std.proofs.Common.{◌≡◌, ℕ, zero, suc, ◌+◌, ◌-◌, ◌*◌, ◌/◌, ◌%◌, ◌<◌, ◌≤◌, true, false, ◌&&◌, eqb, leb, ◌⊎◌, Bool, Some, None, Option, MatchOption, sym, refl, ap, ◌∙◌, inl, inr, add-zero, arith}
 use Rattle.std.proofs.lemmas.Bool.{cases_order, cases_lt, lt-ltb, le-ltb, le-leb, lt-leb, leb-true, eqb-true, and_parts}
+use Rattle.calendar.specs.declared.date.Date.{Date}
+use Rattle.calendar.specs.declared.field.DateField.TheVariants.{Day}
 use Rattle.calendar.specs.Calendar.{leap, month_days, months_days, day_number, ValidMonth, ValidDate, FirstOfMonth, length_of, take_months, date_of, month_first}
 use Rattle.calendar.specs.Dates.{Before, Apart, StandsAlone, wrong_field}
 use Rattle.std.proofs.lemmas.Bool.Decides.{nat_tests}
@@ -154,3 +156,13 @@ month_first_says n t =
 
 pub month_first_passes : (n : ℕ) → FirstOfMonth n → month_first n ≡ true
 month_first_passes n (y, m, v, e) = month_first_is y m 1 n (first_valid y m v) (sym e)
+
+-- so the test is the test for the first of the month of the date of a day, and false where the day has none
+pub month_first_test : (P : Date → Type 0) (o : Option Date) (n : ℕ) (r : Bool) → MatchOption o (84005 < n) (λ d. day_number d.year d.month d.day ≡ n) → MatchOption o (r ≡ false) P → ((d : Date) → P d → r ≡ eqb d.day 1) → r ≡ month_first n
+month_first_test P None n r late never means = never ∙ sym (month_first_late n late)
+month_first_test P (Some d) n r numbered is means = means d is ∙ sym (month_first_is d.year d.month d.day n d.valid numbered)
+
+-- where the day alone is wrong, it is the first wrong field
+pub wrong_day : (y m d n : ℕ) → ValidMonth y m → n ≡ month_days y m → (d < 1) ⊎ (n < d) → wrong_field y m d ≡ Some Day
+wrong_day y m d n v e (inl l) = grind (arith, nat_tests)
+wrong_day y m d n v e (inr l) = grind (arith, nat_tests)

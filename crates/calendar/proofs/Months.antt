@@ -1,9 +1,8 @@
 -- The sum of the months' lengths: its values at the starts of months and years, and how it rises.
-use Rattle.std.proofs.Common.{◌≡◌, ℕ, zero, suc, ◌+◌, ◌-◌, ◌*◌, ◌/◌, ◌%◌, ◌<◌, ◌≤◌, Bool, true, false, cond, ◌&&◌, ◌||◌, T, eqb, ltb, leb, List, [], ◌∷◌, get_or, sym, refl, ap, ◌∙◌, subst, inl, inr, add-zero, add-suc, arith, eqb→eq, leb→le}
-use Rattle.std.proofs.lemmas.Bool.{cases_order, lt-ltb}
+use Rattle.std.proofs.Common.{◌≡◌, ℕ, zero, suc, ◌+◌, ◌-◌, ◌*◌, ◌/◌, ◌%◌, ◌<◌, ◌≤◌, Bool, true, false, cond, ◌&&◌, eqb, ltb, leb, List, [], ◌∷◌, get_or, sym, refl, ap, ◌∙◌, subst, inl, inr, add-zero, add-suc, arith}
+use Rattle.std.proofs.lemmas.Bool.{agree_below, agree_below_at, eqb-true, leb-true, cases_order, lt-ltb}
 use Rattle.std.proofs.lemmas.Bool.Decides.{nat_tests}
 use Rattle.calendar.specs.Calendar.{leap, month_length, month_days, year_days, months_days, before_year, InYear, InMonth}
-use Rattle.calendar.proofs.Below.{all_below, at}
 
 pub end_of_2199 : months_days 2760 ≡ 84006
 unfolding months_days
@@ -14,13 +13,7 @@ unfolding months_days
 month_step j = refl
 
 pub least_month : (b : Bool) (m : ℕ) → 28 ≤ month_length b m
-least_month b m = by (eqb m 2) b ((eqb m 4 || eqb m 6) || (eqb m 9 || eqb m 11))
-  where
-    by : (a b c : Bool) → 28 ≤ cond a (cond b 29 28) (cond c 30 31)
-    by true true c = omega arith
-    by true false c = omega arith
-    by false b true = omega arith
-    by false b false = omega arith
+least_month b m = grind (arith, nat_tests)
 
 -- a month ends before any later one begins
 pub month_ends : (j k : ℕ) → j < k → months_days (suc j) ≤ months_days k
@@ -33,6 +26,10 @@ pub one_month : (j k a b : ℕ) → months_days j + a < months_days (suc j) → 
 one_month j k a b p q e =
     elim (cases_order j k) [ inl s ↦ s | inr o ↦ elim o [ inl l ↦ omega (arith, month_ends j k l) | inr g ↦ omega (arith, month_ends k j g) ] ]
 
+-- a test f passes at each number below n where `agree_below f always n` computes to true
+abbrev always : ℕ → Bool
+always m = true
+
 -- the days before month m, counted from 0, of a year
 abbrev pub starts : List ℕ
 starts = 0 ∷ 31 ∷ 59 ∷ 90 ∷ 120 ∷ 151 ∷ 181 ∷ 212 ∷ 243 ∷ 273 ∷ 304 ∷ 334 ∷ 365 ∷ []
@@ -43,14 +40,14 @@ start_in b m = get_or starts m 0 + cond (ltb 1 m && b) 1 0
 adds : Bool → ℕ → Bool
 adds b m = eqb (start_in b (suc m)) (start_in b m + month_length b (m + 1))
 
-adds_up : (b : Bool) → T (all_below (adds b) 12)
-unfolding all_below adds start_in
-adds_up true = tt
-adds_up false = tt
+adds_up : (b : Bool) → agree_below (adds b) always 12 ≡ true
+unfolding adds start_in
+adds_up true = refl
+adds_up false = refl
 
 start_step : (b : Bool) (m : ℕ) → m < 12 → start_in b (suc m) ≡ start_in b m + month_length b (m + 1)
 unfolding adds
-start_step b m h = eqb→eq (start_in b (suc m)) (start_in b m + month_length b (m + 1)) (at (adds b) 12 (adds_up b) m h)
+start_step b m h = eqb-true (start_in b (suc m)) (start_in b m + month_length b (m + 1)) (agree_below_at (adds b) always 12 m (adds_up b) h)
 
 pub month_at : (k m : ℕ) → m < 12 → months_days (suc (12 * k + m)) ≡ months_days (12 * k + m) + month_days (1970 + k) (m + 1)
 month_at k m h =
@@ -75,9 +72,9 @@ years_closed k = (((365 * k + (1969 + k) / 4) - (1969 + k) / 100) + (1969 + k) /
 year_adds : ℕ → Bool
 year_adds k = eqb (years_closed (suc k)) (years_closed k + start_in (leap (1970 + k)) 12)
 
-years_add : T (all_below year_adds 230)
-unfolding all_below year_adds years_closed start_in
-years_add = tt
+years_add : agree_below year_adds always 230 ≡ true
+unfolding year_adds years_closed start_in
+years_add = refl
 
 closed_none : months_days 0 ≡ years_closed 0
 unfolding months_days years_closed
@@ -85,7 +82,7 @@ closed_none = refl
 
 closed_step : (k : ℕ) → k < 230 → years_closed (suc k) ≡ years_closed k + start_in (leap (1970 + k)) 12
 unfolding year_adds
-closed_step k h = eqb→eq (years_closed (suc k)) (years_closed k + start_in (leap (1970 + k)) 12) (at year_adds 230 years_add k h)
+closed_step k h = eqb-true (years_closed (suc k)) (years_closed k + start_in (leap (1970 + k)) 12) (agree_below_at year_adds always 230 k years_add h)
 
 pub year_step : (k : ℕ) → months_days (12 * suc k) ≡ months_days (12 * k) + start_in (leap (1970 + k)) 12
 year_step k = let e : 12 * suc k ≡ 12 * k + 12 = omega arith in rw e (start_is k 12 (omega arith))
@@ -107,14 +104,14 @@ fits_high : Bool → ℕ → Bool
 fits_high b r = leb (suc r) (start_in b (r / 31 + 2))
 
 pub low : (b : Bool) (r : ℕ) → r < cond b 366 365 → start_in b (r / 31) ≤ r
-unfolding all_below fits_low start_in
-low true r h = leb→le (start_in true (r / 31)) r (at (fits_low true) 366 tt r h)
-low false r h = leb→le (start_in false (r / 31)) r (at (fits_low false) 365 tt r h)
+unfolding fits_low start_in
+low true r h = leb-true (start_in true (r / 31)) r (agree_below_at (fits_low true) always 366 r refl h)
+low false r h = leb-true (start_in false (r / 31)) r (agree_below_at (fits_low false) always 365 r refl h)
 
 pub high : (b : Bool) (r : ℕ) → r < 341 → r < start_in b (r / 31 + 2)
-unfolding all_below fits_high start_in
-high true r h = leb→le (suc r) (start_in true (r / 31 + 2)) (at (fits_high true) 341 tt r h)
-high false r h = leb→le (suc r) (start_in false (r / 31 + 2)) (at (fits_high false) 341 tt r h)
+unfolding fits_high start_in
+high true r h = leb-true (suc r) (start_in true (r / 31 + 2)) (agree_below_at (fits_high true) always 341 r refl h)
+high false r h = leb-true (suc r) (start_in false (r / 31 + 2)) (agree_below_at (fits_high false) always 341 r refl h)
 
 pub month_start_is : (y m : ℕ) → 1970 ≤ y → m ≤ 12 → months_days (12 * (y - 1970) + m) ≡ before_year y + start_in (leap y) m
 month_start_is y m h l =
@@ -143,8 +140,8 @@ within_year : ℕ → Bool
 within_year m = leb (get_or starts m 0) 365
 
 pub starts_within : (m : ℕ) → m < 13 → get_or starts m 0 ≤ 365
-unfolding all_below within_year
-starts_within m h = leb→le (get_or starts m 0) 365 (at within_year 13 tt m h)
+unfolding within_year
+starts_within m h = leb-true (get_or starts m 0) 365 (agree_below_at within_year always 13 m refl h)
 
 pub month_early : (y m : ℕ) → 1970 ≤ y → m ≤ 1 → months_days (12 * (y - 1970) + m) ≡ before_year y + get_or starts m 0
 month_early y m h l = month_start_is y m h (omega arith) ∙ ap (λ (x : ℕ). before_year y + x) (start_early (leap y) m l)
@@ -233,13 +230,7 @@ module _ (y r s : ℕ) (from : 1970 ≤ y) (within : r < year_days y)
       (omega arith, record { month_from = omega arith; month_to = omega arith; adds_up = omega arith; day_from = omega arith; day_to = omega arith })
 
 pub most_month : (b : Bool) (m : ℕ) → month_length b m ≤ 31
-most_month b m = by (eqb m 2) b ((eqb m 4 || eqb m 6) || (eqb m 9 || eqb m 11))
-  where
-    by : (a b c : Bool) → cond a (cond b 29 28) (cond c 30 31) ≤ 31
-    by true true c = omega arith
-    by true false c = omega arith
-    by false b true = omega arith
-    by false b false = omega arith
+most_month b m = grind (arith, nat_tests)
 
 pub year_least : (b : Bool) → 365 ≤ cond b 366 365
 year_least true = omega arith

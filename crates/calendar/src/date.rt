@@ -1,5 +1,5 @@
 // A date of the years 1970 to 2199.
-ghost use Rattle.std.specs.Prelude.{◌≡◌, ◌<◌, ◌≤◌, IfSome, Some, None, Decides, MatchOption, MatchResult};
+ghost use Rattle.std.specs.Prelude.{◌≡◌, ◌<◌, ◌≤◌, ◌↔◌, IsTrue, IfSome, Some, None, MatchOption, MatchResult};
 ghost use Rattle.calendar.specs.Calendar.{last_day, day_number, ValidDate, FirstOfMonth, month_first};
 ghost use Rattle.calendar.specs.Dates.{wrong_field, Apart, StandsAlone};
 
@@ -8,7 +8,7 @@ use crate::days::{
 };
 use crate::field::DateField;
 
-// A date of the calendar: no other can be made.
+/// A date of the calendar: no other can be made.
 #[derive(Clone, Copy, PartialEq, Eq, PartialOrd, Ord, Debug)]
 pub struct Date {
     year: u16,
@@ -18,23 +18,23 @@ pub struct Date {
 }
 
 impl Date {
-    // The date of these fields, or the first of them that is wrong.
+    /// The date of these fields, or the first of them that is wrong.
     pub fn new(year: u16, month: u8, day: u8) -> Result<Date, DateField>
         ensures { MatchResult result (λ d. (wrong_field year month day ≡ None) × (d.year ≡ year) × (d.month ≡ month) × (d.day ≡ day)) (λ f. wrong_field year month day ≡ Some f) }
     {
-        if year < FIRST_YEAR || year > LAST_YEAR {
+        if !(FIRST_YEAR..=LAST_YEAR).contains(&year) {
             return Err(DateField::Year);
         }
-        if month < 1 || month > 12 {
+        if !(1..=12).contains(&month) {
             return Err(DateField::Month);
         }
-        if day < 1 || day > days_in_month(year, month) {
+        if !(1..=days_in_month(year, month)).contains(&day) {
             return Err(DateField::Day);
         }
         Ok(Date { year, month, day })
     }
 
-    // The date of a day number; none after the last day, 84,005.
+    /// The date of a day number; none after the last day, 84,005.
     pub fn of_day(day: u32) -> Option<Date>
         ensures numbered { MatchOption result (last_day < day) (λ d. day_number d.year d.month d.day ≡ day) }
         ensures alone { IfSome result (λ d. StandsAlone d.year d.month d.day day) }
@@ -65,7 +65,7 @@ impl Date {
         self.day
     }
 
-    // The days from 1970-01-01 to this date.
+    /// The days from 1970-01-01 to this date.
     pub fn day_number(&self) -> u32
         ensures is { result ≡ day_number self.now.year self.now.month self.now.day }
         ensures last { result ≤ last_day }
@@ -76,14 +76,11 @@ impl Date {
     }
 }
 
-// Whether a day is the first of a month.
+/// Whether a day is the first of a month.
 pub fn is_month_first(day: u32) -> bool
-    ensures says { Decides result (FirstOfMonth day) }
+    ensures says { IsTrue result ↔ FirstOfMonth day }
     ensures test { result ≡ month_first day }
     ensures apart { FirstOfMonth day → Apart day }
 {
-    match Date::of_day(day) {
-        Some(date) => date.day == 1,
-        None => false,
-    }
+    Date::of_day(day).is_some_and(|date| date.day == 1)
 }

@@ -27,9 +27,10 @@ pub(crate) fn days_in_month(year: u16, month: u8) -> u8
     }
 }
 
-// The days of the years before `year`.
+// The days of the years before `year`. A plain number: a type for years from 1970 on would be taken apart again in each function here.
 pub(crate) fn year_start(year: u16) -> u32
-    requires { (1970 ≤ year) × (year ≤ 2200) }
+    requires from { 1970 ≤ year }
+    requires to { year ≤ 2200 }
     ensures { result ≡ before_year year }
 {
     let last = year as u32 - 1;
@@ -38,7 +39,9 @@ pub(crate) fn year_start(year: u16) -> u32
 
 // The days of `year` before its month `month`.
 pub(crate) fn month_start(year: u16, month: u8) -> u16
-    requires { (1970 ≤ year) × ((1 ≤ month) × (month ≤ 13)) }
+    requires year_from { 1970 ≤ year }
+    requires month_from { 1 ≤ month }
+    requires month_to { month ≤ 13 }
     ensures { months_days (12 * (year - 1970) + (month - 1)) ≡ before_year year + result }
 {
     let days = DAYS_BEFORE[month as usize - 1];
@@ -66,7 +69,8 @@ pub(crate) fn year_of(day: u32) -> (u16, u16)
 
 // The month and the day of the month that come after `days` days of a year.
 pub(crate) fn month_of(year: u16, days: u16) -> (u8, u8)
-    requires { (1970 ≤ year) × (days < year_days year) }
+    requires from { 1970 ≤ year }
+    requires within { days < year_days year }
     ensures { InMonth year days result.0 result.1 }
 {
     // So many months are over, or one more.

@@ -1,7 +1,8 @@
 -- An accepted bulletin leaves a sound table sound, and what it says of the past as it was.
 use Rattle.std.proofs.Common.{◌≡◌, ℕ, ◌-◌, ◌≤◌, Bool, true, false, cond, not, ◌&&◌, ◌||◌, eqb, ltb, leb, List, [], ◌∷◌, ◌++◌, length, Some, None, Ok, Result, sym, refl, ap, subst, inl, inr, arith}
 use Rattle.std.proofs.lemmas.List.{length_push}
-use Rattle.std.proofs.lemmas.Bool.{ltb-true, ltb-false, leb-false, eqb-false, eq-eqb, ne_eqb, and_parts, or_parts, cases_eq, cases_Bool}
+use Rattle.std.proofs.lemmas.Bool.{ltb-true, ltb-false, leb-false, eq-eqb, ne_eqb, and_parts, or_parts, cases_eq, cases_Bool}
+use Rattle.std.proofs.lemmas.Bool.Decides.{nat_tests}
 use Rattle.refusals.specs.Said.{Said}
 use Rattle.calendar.specs.Calendar.{month_first}
 use Rattle.calendar.proofs.Dates.{month_first_says}
@@ -67,12 +68,12 @@ appended_renews t e x p =
 
 -- an answer that is no refusal has passed each check
 passed : (b : Bool) (n : ℕ) (r : Result (Unit {0}) Said) → cond b (refused n) r ≡ Ok tt → (b ≡ false) × (r ≡ Ok tt)
-passed true n r e = let z : ◌≡◌ {A = ℕ} 0 1 = cc in absurd (omega arith)
+passed true n r e = absurd (cc)
 passed false n r e = (refl, e)
 
 held : (b : Bool) (n : ℕ) (r : Result (Unit {0}) Said) → cond b r (refused n) ≡ Ok tt → (b ≡ true) × (r ≡ Ok tt)
 held true n r e = (refl, e)
-held false n r e = let z : ◌≡◌ {A = ℕ} 0 1 = cc in absurd (omega arith)
+held false n r e = absurd (cc)
 
 pub record Moves (o p : ℕ) : Type 0 where
   pub moves : 1 ≤ apart o p
@@ -81,21 +82,12 @@ pub record Moves (o p : ℕ) : Type 0 where
 
 -- the offset after a change that does not leave the range
 pub moved_by : (c o : ℕ) → o ≤ top_offset → leaves_range c o ≡ false → Moves o (moved c o)
-moved_by c o top h =
-    elim (cases_eq c 1) [
-      | inl e ↦
-          let g = leb-false top_offset o (rw (eq-eqb c 1 e) at h) in
-          rw (eq-eqb c 1 e) (record { moves = omega arith; steps = omega arith; range = omega arith })
-      | inr e ↦
-          let g = eqb-false o 0 (rw (ne_eqb c 1 e) at h) in
-          let l : 1 ≤ o = omega arith in
-          rw (ne_eqb c 1 e) (record { moves = omega arith; steps = omega arith; range = omega arith })
-    ]
+moved_by c o top h = record { moves = grind (arith, nat_tests); steps = grind (arith, nat_tests); range = grind (arith, nat_tests) }
 
 pub next_moves : (c o p : ℕ) → o ≤ top_offset → Some p ≡ next_offset c o → Moves o p
 next_moves c o p top e =
     elim (cases_Bool (leaves_range c o)) [
-      | inl h ↦ let n : next_offset c o ≡ None = ap (λ b. cond b None (Some (moved c o))) h in let z : ◌≡◌ {A = ℕ} 0 1 = cc in absurd (omega arith)
+      | inl h ↦ let n : next_offset c o ≡ None = ap (λ b. cond b None (Some (moved c o))) h in absurd (cc)
       | inr h ↦
           let n : next_offset c o ≡ Some (moved c o) = ap (λ b. cond b None (Some (moved c o))) h in
           let q : moved c o ≡ p = cc in

@@ -1,11 +1,12 @@
 -- Entries one after another, as a fact; the computed test says the same. The fact is easier to carry through a recursion than the test.
-use Rattle.std.proofs.Common.{◌≡◌, ℕ, zero, suc, ◌<◌, ◌≤◌, true, ◌&&◌, ltb, leb, List, [], ◌∷◌, ◌++◌, length, refl, arith}
-use Rattle.std.proofs.lemmas.Bool.{and_parts, and_from, ltb-true, lt-ltb, le-leb, leb-true}
-use Rattle.calendar.specs.Calendar.{month_first, FirstOfMonth}
+use Rattle.std.proofs.Common.{◌≡◌, ℕ, zero, suc, ◌<◌, ◌≤◌, true, List, [], ◌∷◌, ◌++◌, length, refl, arith}
+use Rattle.std.proofs.lemmas.Bool.{and_parts, and_from, ltb-true, lt-ltb}
+use Rattle.std.proofs.lemmas.Bool.Decides.{nat_tests}
+use Rattle.calendar.specs.Calendar.{FirstOfMonth}
 use Rattle.calendar.proofs.Dates.{month_first_says, month_first_passes}
 use Rattle.leap.specs.declared.entry.Entry.{Entry}
 use Rattle.leap.specs.Table.{largest_step, top_offset, apart, at}
-use Rattle.leap.specs.Test.{near, next_to, chain}
+use Rattle.leap.specs.Test.{next_to, in_order, chain}
 
 -- entry b may stand right after entry a
 pub record Next (a b : Entry) : Type 0 where
@@ -22,23 +23,16 @@ Follow a (b ∷ es) x = Next a b × Follow b es x
 
 pub next_says : (a b : Entry) → next_to a b ≡ true → Next a b
 next_says a b h =
-    let p = and_parts (ltb a.day b.day && near a.offset b.offset) (leb b.offset top_offset && month_first b.day) h in
-    let q = and_parts (ltb a.day b.day) (near a.offset b.offset) p.0 in
-    let n = and_parts (leb 1 (apart a.offset b.offset)) (leb (apart a.offset b.offset) largest_step) q.1 in
-    let r = and_parts (leb b.offset top_offset) (month_first b.day) p.1 in
     record {
-      rises = ltb-true a.day b.day q.0;
-      moves = leb-true 1 (apart a.offset b.offset) n.0;
-      steps = leb-true (apart a.offset b.offset) largest_step n.1;
-      range = leb-true b.offset top_offset r.0;
-      month = month_first_says b.day r.1;
+      rises = grind (arith, nat_tests);
+      moves = grind (arith, nat_tests);
+      steps = grind (arith, nat_tests);
+      range = grind (arith, nat_tests);
+      month = month_first_says b.day (grind (arith, nat_tests));
     }
 
 pub next_passes : (a b : Entry) → Next a b → next_to a b ≡ true
-next_passes a b n =
-    and_from _ _
-    (and_from _ _ (lt-ltb a.day b.day n.rises) (and_from _ _ (le-leb 1 (apart a.offset b.offset) n.moves) (le-leb (apart a.offset b.offset) largest_step n.steps)))
-    (and_from _ _ (le-leb b.offset top_offset n.range) (month_first_passes b.day n.month))
+next_passes a b n = let month = month_first_passes b.day n.month in grind (arith, nat_tests)
 
 pub chain_says : (a : Entry) (es : List Entry) (x : ℕ) → chain a es x ≡ true → Follow a es x
 chain_says a [] x h = ltb-true a.day x h
@@ -79,3 +73,12 @@ pairs_of a (b ∷ es) x f (suc k) h = pairs_of b es x f.1 k (omega arith)
 pub follow_of : (a : Entry) (es : List Entry) (x : ℕ) → ((k : ℕ) → k < length es → Next (at (a ∷ es) k) (at (a ∷ es) (suc k))) → (newest a es).day < x → Follow a es x
 follow_of a [] x p l = l
 follow_of a (b ∷ es) x p l = (p 0 (omega arith), follow_of b es x (λ k h. p (suc k) (omega arith)) l)
+
+-- the test of each entry with the one after it
+pub in_order_says : (a : Entry) (es : List Entry) (x : ℕ) → in_order (a ∷ es) es ≡ true → (newest a es).day < x → Follow a es x
+in_order_says a [] x h l = l
+in_order_says a (b ∷ es) x h l = let p = and_parts (next_to a b) (in_order (b ∷ es) es) h in (next_says a b p.0, in_order_says b es x p.1 l)
+
+pub in_order_passes : (a : Entry) (es : List Entry) (x : ℕ) → Follow a es x → in_order (a ∷ es) es ≡ true
+in_order_passes a [] x f = refl
+in_order_passes a (b ∷ es) x f = and_from _ _ (next_passes a b f.0) (in_order_passes b es x f.1)

@@ -1,3 +1,4 @@
+pub mod Blanks
 pub mod Chain
 pub mod Saying
 pub mod Offsets

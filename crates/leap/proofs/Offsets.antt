@@ -1,6 +1,9 @@
 -- What a sound table says of its offsets.
-use Rattle.std.proofs.Common.{◌≡◌, ℕ, zero, suc, ◌+◌, ◌-◌, ◌<◌, ◌≤◌, min, cond, leb, List, [], ◌∷◌, ◌++◌, length, take, sym, refl, ap, ◌∙◌, inl, inr, add-one, arith}
-use Rattle.std.proofs.lemmas.List.{take_more}
+use Rattle.std.proofs.Common.{◌≡◌, ℕ, zero, suc, ◌+◌, ◌<◌, ◌≤◌, min, cond, leb, List, [], ◌∷◌, ◌++◌, length, Some, None, Option, MatchOption, Bor, reverse, sym, refl, ap, ◌∙◌, inl, inr, add-one, arith}
+use Rattle.std.proofs.lemmas.List.{reverse-reverse}
+use Rattle.std.proofs.lemmas.Grind.{reverse_onto}
+use Rattle.std.specs.List.{find}
+use Rattle.std.specs.Option.{option_map, option_map_or}
 use Rattle.std.proofs.lemmas.Bool.{le-leb, lt-leb, cases_lt}
 use Rattle.leap.specs.declared.entry.Entry.{Entry}
 use Rattle.leap.specs.Table.{Table, Sound, Counts, largest_step, top_offset, day_seconds, first_entry_day, first_entry_offset, at, offset_on, off, len}
@@ -79,23 +82,25 @@ offset_push o (a ∷ es) e d = offset_push (cond (leb a.day d) a.offset o) es e 
 pub offset_appended : (o : ℕ) (es : List Entry) (e : Entry) (d : ℕ) → d < e.day → offset_on o (es ++ e ∷ []) d ≡ offset_on o es d
 offset_appended o es e d h = offset_push o es e d ∙ ap (λ b. cond b e.offset (offset_on o es d)) (lt-leb e.day d h)
 
--- a search from the newest entry back that has come to place i: the entry before that place counts, or is passed over
-one_fewer : (es : List Entry) (i : ℕ) → 0 < i → i ≤ length es → take i es ≡ take (i - 1) es ++ at es (i - 1) ∷ []
-one_fewer es i h l =
-    let e : i ≡ i - 1 + 1 = omega arith in
-    ap (λ (n : ℕ). take n es) e ∙ take_more es (i - 1) (record { day = 0; offset = 0 }) (omega arith)
+-- a search from the newest entry back finds the one that counts, if any does
+abbrev pub offset_of : Entry → ℕ
+offset_of e = e.offset
 
-pub back_found : (o : ℕ) (es : List Entry) (i d : ℕ) → 0 < i → i ≤ length es → (at es (i - 1)).day ≤ d → offset_on o (take i es) d ≡ (at es (i - 1)).offset
-back_found o es i d h l m =
-    ap (λ (xs : List Entry). offset_on o xs d) (one_fewer es i h l)
-    ∙ offset_push o (take (i - 1) es) (at es (i - 1)) d
-    ∙ ap (λ b. cond b (at es (i - 1)).offset (offset_on o (take (i - 1) es) d)) (le-leb (at es (i - 1)).day d m)
+found_back : (o : ℕ) (es : List Entry) (d : ℕ) → offset_on o (reverse es) d ≡ option_map_or offset_of (find (λ e. leb e.day d) es) o
+found_back o [] d = refl
+found_back o (e ∷ es) d =
+    let back = found_back o es d in
+    ap (λ (xs : List Entry). offset_on o xs d) (reverse_onto es e [])
+    ∙ offset_push o (reverse es) e d
+    ∙ elim (cases_lt d e.day) [ inl l ↦ rw (lt-leb e.day d l) back | inr l ↦ rw (le-leb e.day d l) refl ]
 
-pub back_passed : (o : ℕ) (es : List Entry) (i d : ℕ) → 0 < i → i ≤ length es → d < (at es (i - 1)).day → offset_on o (take i es) d ≡ offset_on o (take (i - 1) es) d
-back_passed o es i d h l m = ap (λ (xs : List Entry). offset_on o xs d) (one_fewer es i h l) ∙ offset_appended o (take (i - 1) es) (at es (i - 1)) d m
+pub from_back : (o : ℕ) (es : List Entry) (d : ℕ) → offset_on o es d ≡ option_map_or offset_of (find (λ e. leb e.day d) (reverse es)) o
+from_back o es d = ap (λ (xs : List Entry). offset_on o xs d) (sym (reverse-reverse es)) ∙ found_back o (reverse es) d
 
-pub back_none : (o : ℕ) (es : List Entry) (i d : ℕ) → i ≤ 0 → offset_on o (take i es) d ≡ o
-back_none o es i d h = let e : i ≡ 0 = omega arith in ap (λ (n : ℕ). offset_on o (take n es) d) e
+-- the answer at what was found, by what is known of it there and where there is nothing
+pub answer_is : (P : Bor Entry → Type 0) (r : Option (Bor Entry)) (o n : ℕ) → MatchOption r (n ≡ o) P → ((e : Bor Entry) → P e → n ≡ e.now.offset) → n ≡ option_map_or offset_of (option_map (λ e. e.now) r) o
+answer_is P None o n nothing means = nothing
+answer_is P (Some e) o n found means = means e found
 
 -- a sound table has a first entry, and those that follow
 record Split (t : Table) : Type 0 where

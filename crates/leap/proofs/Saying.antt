@@ -1,16 +1,16 @@
 -- The computed test says exactly that a table is sound.
-use Rattle.std.proofs.Common.{◌≡◌, ℕ, zero, suc, ◌+◌, ◌-◌, ◌<◌, ◌≤◌, true, ◌&&◌, eqb, leb, List, [], ◌∷◌, length, take, sym, refl, ap, ◌∙◌, subst, add-one, arith}
-use Rattle.std.proofs.lemmas.List.{length-take-le}
+use Rattle.std.proofs.Common.{◌≡◌, ℕ, zero, suc, ◌+◌, ◌-◌, ◌<◌, ◌≤◌, true, ◌&&◌, eqb, leb, List, [], ◌∷◌, length, take, drop, sym, refl, ap, ◌∙◌, subst, add-one, arith}
+use Rattle.std.proofs.lemmas.List.{length-take-le, take_all}
 use Rattle.std.proofs.lemmas.Bool.{and_parts, and_from, eqb-true, eq-eqb, le-leb, leb-true, false≢true}
 use Rattle.calendar.specs.Calendar.{FirstOfMonth, month_first, date_of, take_months}
 use Rattle.calendar.proofs.Dates.{month_first_says}
 use Rattle.leap.specs.declared.entry.Entry.{Entry}
-use Rattle.leap.specs.declared.table.LeapTable.{LeapTable}
+use Rattle.leap.specs.declared.table.LeapTable.TheInside.{Inside}
 use Rattle.leap.specs.Table.{Table, Sound, top_offset, most_entries, table_end, first_entry_day, first_entry_offset, at}
-use Rattle.leap.specs.Test.{first_entry, chain, sound}
-use Rattle.leap.specs.Held.{table_of}
+use Rattle.leap.specs.Test.{first_entry, chain, in_order, sound}
+use Rattle.leap.specs.Held.{shown, Held}
 use Rattle.leap.specs.Parts.{table_from}
-use Rattle.leap.proofs.Chain.{Next, Follow, newest, chain_says, chain_passes, newest_at, newest_in_time, pairs_of, follow_of}
+use Rattle.leap.proofs.Chain.{Next, Follow, newest, chain_says, chain_passes, newest_at, newest_in_time, pairs_of, follow_of, in_order_says, in_order_passes}
 
 -- a sound table, as a first entry and those that follow
 pub record Stands (a : Entry) (es : List Entry) (x : ℕ) : Type 0 where
@@ -87,17 +87,29 @@ pub record Ends (t : Table) : Type 0 where
   pub last_in_time : (at t.entries (length t.entries - 1)).day < t.expiry
   pub expires : t.expiry ≤ table_end
 
-pub sound_by : (es : List Entry) (x : ℕ) → Ends (table_from es x) → ((k : ℕ) → k + 1 < length es → Next (at es k) (at es (k + 1))) → Sound (table_from es x)
+-- the entries after the first
+abbrev pub later : List Entry → List Entry
+later es = take (length es - 1) (drop 1 es)
+
+later_is : (a : Entry) (es : List Entry) → later (a ∷ es) ≡ es
+later_is a es = take_all (length (a ∷ es) - 1) es (omega arith)
+
+pub sound_by : (es : List Entry) (x : ℕ) → Ends (table_from es x) → in_order es (later es) ≡ true → Sound (table_from es x)
 sound_by [] x e p = let no : ⊥ = omega (arith, e.some) in absurd no
 sound_by (a ∷ es) x e p =
+    let rising : in_order (a ∷ es) es ≡ true = ap (in_order (a ∷ es)) (sym (later_is a es)) ∙ p in
     stands_sound a es x
     (record {
       room = e.room;
       first_day = e.first_day;
       first_offset = e.first_offset;
-      follow = follow_at a es x p e.last_in_time;
+      follow = in_order_says a es x rising (rw (last_at a es) at e.last_in_time);
       expires = e.expires;
     })
+
+pub sound_in_order : (es : List Entry) (x : ℕ) → Sound (table_from es x) → in_order es (later es) ≡ true
+sound_in_order [] x s = refl
+sound_in_order (a ∷ es) x s = ap (in_order (a ∷ es)) (later_is a es) ∙ in_order_passes a es x (sound_stands a es x s).follow
 
 -- the test says that the table is sound, and a sound table passes
 pub sound_says : (es : List Entry) (x : ℕ) → length es ≤ most_entries → sound es x ≡ true → Sound (table_from es x)
@@ -124,11 +136,14 @@ sound_passes (a ∷ es) x s =
     (and_from _ _ (le-leb x table_end p.expires) (chain_passes a es x p.follow))
 
 -- every table that the code holds is sound
-pub table_sound : (t : LeapTable) → Sound (table_of t)
-table_sound t =
-    let n : length (take t.count t.entries) ≡ t.count = length-take-le t.count t.entries (omega arith) in
-    sound_says (take t.count t.entries) t.expiry (omega arith) t.keeps
+pub held_sound : (a : Inside) → Held a → Sound (shown a)
+held_sound a h =
+    let n : length (take a.count a.entries) ≡ a.count = length-take-le a.count a.entries (omega arith) in
+    sound_says (take a.count a.entries) a.expiry (omega arith) h.keeps
+
+pub table_sound : (a : Inside) (t : Table) → Held a → shown a ≡ t → Sound t
+table_sound a t h is = subst Sound is (held_sound a h)
 
 -- so many entries are in use
-pub table_length : (t : LeapTable) → length (table_of t).entries ≡ t.count
-table_length t = length-take-le t.count t.entries (omega arith)
+pub table_length : (a : Inside) (t : Table) → Held a → shown a ≡ t → length t.entries ≡ a.count
+table_length a t h is = ap (λ (u : Table). length u.entries) (sym is) ∙ length-take-le a.count a.entries (omega arith)

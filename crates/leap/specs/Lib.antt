@@ -1,5 +1,6 @@
 pub mod Table
 pub mod Test
+pub mod Room
 pub mod Held
 pub mod Parts
 pub mod Starting

@@ -3,9 +3,10 @@
 
 pub mod bulletin;
 pub mod entry;
-mod limits;
+pub mod limits;
 pub mod offset;
 pub mod parts;
 pub mod renew;
+mod room;
 pub mod starting;
 pub mod table;

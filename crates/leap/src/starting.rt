@@ -1,18 +1,16 @@
 // The table that stands before any bulletin.
 ghost use Rattle.std.specs.Prelude.{◌≡◌};
 ghost use Rattle.leap.specs.Table.{Sound};
-ghost use Rattle.leap.specs.Held.{table_of};
 ghost use Rattle.leap.specs.Starting.{starting};
 
 use crate::entry::Entry;
-use crate::limits::MOST_ENTRIES;
 use crate::table::LeapTable;
 
 const STARTING_COUNT: usize = 28;
 
 const STARTING_EXPIRY: u32 = 20_000;
 
-// The days and offsets since 1972-01-01.
+// The days and offsets since 1972-01-01. Pairs, as entries written out would take four lines each.
 const STARTING: [(u32, u16); STARTING_COUNT] = [
     (730, 10),
     (912, 11),
@@ -45,20 +43,12 @@ const STARTING: [(u32, u16); STARTING_COUNT] = [
 ];
 
 impl LeapTable {
-    // The table that stands before any bulletin. It expires on 2024-10-04.
+    /// The table that stands before any bulletin. It expires on 2024-10-04.
     pub fn starting() -> LeapTable
-        ensures is { table_of result ≡ starting }
-        ensures sound { Sound (table_of result) }
+        ensures is { result ≡ starting }
+        ensures sound { Sound result }
     {
-        let mut entries = [Entry { day: 0, offset: 0 }; MOST_ENTRIES];
-        for i in 0..STARTING_COUNT {
-            let (day, offset) = STARTING[i];
-            entries[i] = Entry { day, offset };
-        }
-        LeapTable {
-            entries,
-            count: STARTING_COUNT,
-            expiry: STARTING_EXPIRY,
-        }
+        let entries = STARTING.map(|(day, offset)| Entry { day, offset });
+        LeapTable::holding(&entries, STARTING_EXPIRY)
     }
 }

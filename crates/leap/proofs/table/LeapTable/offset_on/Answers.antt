@@ -1,24 +1,23 @@
-use Rattle.std.proofs.Common.{sym, ◌∙◌, arith}
-use Rattle.leap.specs.Table.{first_entry_offset}
-use Rattle.leap.specs.Held.{table_of}
-use Rattle.leap.proofs.Saying.{table_sound}
-use Rattle.leap.proofs.Offsets.{back_found, back_passed, back_none, off_low, off_counts}
+use Rattle.std.proofs.Common.{◌≡◌, leb, Option, Bor, reverse, sym, ap, ◌∙◌, rules}
+use borrow.Author.Tests.{tests}
+use Rattle.std.specs.List.{find}
+use Rattle.std.specs.Option.{option_map, option_map_or}
+use Rattle.std.proofs.lemmas.Iterator.Search.{find_from_yields_List}
+use Rattle.std.proofs.lemmas.Iterator.Adapters.{YieldsList-from_rev_slice}
+use Rattle.leap.specs.declared.entry.Entry.{Entry}
+use Rattle.leap.specs.Table.{off, first_entry_offset}
+use Rattle.leap.proofs.Offsets.{from_back, answer_is, offset_of, off_low, off_counts}
 use Rattle.leap.proofs.table.LeapTable.offset_on.Goals as goal
-
-pub returns-then-entry-day : goal.returns-then-entry-day
-returns-then-entry-day c =
-    let t = c.args.self.now in
-    let d = c.args.day in
-    let is = sym (c.loop-i.invariant.1 ∙ back_found first_entry_offset t.entries c.loop-i.i d (omega arith) (omega arith) (omega arith)) in
-    record { is = is; counts = rw is (off_counts (table_of t) (table_sound t) d); range = rw is (off_low (table_of t) (table_sound t) d) }
-
-pub loop-i-preserved : goal.loop-i-preserved
-loop-i-preserved c =
-    (omega arith, c.loop-i.invariant.1 ∙ back_passed first_entry_offset c.args.self.now.entries c.loop-i.i c.args.day (omega arith) (omega arith) (omega arith))
 
 pub returns : goal.returns
 returns c =
     let t = c.args.self.now in
+    let s = c.in_use.ensures.sound in
     let d = c.args.day in
-    let is = sym (c.loop-i.invariant.1 ∙ back_none first_entry_offset t.entries c.loop-i.i d (omega arith)) in
-    record { is = is; counts = rw is (off_counts (table_of t) (table_sound t) d); range = omega arith }
+    let found : option_map (λ (e : Bor Entry). e.now) c.find-newest.result ≡ find (λ e. leb e.day d) (reverse t.entries) =
+    find_from_yields_List (λ (e : Entry). leb e.day d) _ _ c.find-newest.result c.find-newest.ensures.ran (YieldsList-from_rev_slice t.entries (cc (c.rev.ensures.source, c.iter.ensures.rest, c.in_use.ensures.is))) (λ x b q k. (search (rules, tests), search (rules, tests))) in
+    let is : c.map_or.result ≡ off t d =
+    answer_is _ c.find-newest.result first_entry_offset c.map_or.result c.map_or.ensures (λ e is. search rules)
+    ∙ ap (λ (r : Option Entry). option_map_or offset_of r first_entry_offset) found
+    ∙ sym (from_back first_entry_offset t.entries d) in
+    record { is = is; counts = rw is (off_counts t s d); range = rw is (off_low t s d); sound = s }

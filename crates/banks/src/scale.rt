@@ -1,8 +1,7 @@
 // A scale: a form over a rung. It is a bank of one feed too.
-ghost use Rattle.std.specs.Prelude.{◌≡◌, min};
-ghost use Rattle.leap.specs.Held.{table_of};
+ghost use Rattle.std.specs.Prelude.{◌≡◌, cond, min, nat_lt};
 ghost use Rattle.clocks.specs.Counts.{told_limit};
-ghost use Rattle.clocks.specs.Banks.{one_scale, clocked};
+ghost use Rattle.clocks.specs.Banks.{one_scale};
 ghost use Rattle.clocks.specs.Scales.{scale};
 ghost use Rattle.clocks.proofs.Besides.{one_lawful};
 ghost use Rattle.clocks.proofs.Scales.{scale_lawful};
@@ -16,6 +15,7 @@ use leap::table::LeapTable;
 use refusals::fault::Fault;
 use refusals::refusal::Refusal;
 
+/// A form over a rung.
 #[derive(Clone, Copy)]
 pub struct Scale<F, R> {
     pub form: F,
@@ -23,17 +23,18 @@ pub struct Scale<F, R> {
 }
 
 impl<F: Form, R: Rung> Scale<F, R> {
-    // A stamp (hi, lo) as a tick.
+    /// A stamp (hi, lo) as a tick.
     pub fn read_stamp(&self, table: &LeapTable, stamp: (u64, u64)) -> Result<u64, Fault>
-        ensures { result ≡ (scale (F.Form.meaning self.now.form) (R.Rung.meaning self.now.rung)).reads (table_of table.now) stamp }
+        ensures { result ≡ (scale (F.Form.meaning self.now.form) (R.Rung.meaning self.now.rung)).reads table.now stamp }
     {
         let count = self.form.read(table, stamp)?;
         lower_by(1, self.rung.read(table, count))
     }
 
-    // A tick as a stamp. What is shown must be read again.
+    /// A tick as a stamp. What is shown must be read again.
+    // These are the steps of a pile: one function for both would take four closures.
     pub fn show_tick(&self, table: &LeapTable, tick: u64) -> Result<(u64, u64), Fault>
-        ensures { result ≡ (scale (F.Form.meaning self.now.form) (R.Rung.meaning self.now.rung)).shows (table_of table.now) tick }
+        ensures { result ≡ (scale (F.Form.meaning self.now.form) (R.Rung.meaning self.now.rung)).shows table.now tick }
     {
         let count = lower_by(1, self.rung.show(table, tick))?;
         let stamp = self.form.show(table, count)?;
@@ -42,7 +43,7 @@ impl<F: Form, R: Rung> Scale<F, R> {
         Ok(stamp)
     }
 
-    // The loss, told up to 10^12.
+    /// The loss, told up to 10^12.
     pub fn told_loss(&self) -> u64
         ensures { result ≡ min told_limit (scale (F.Form.meaning self.now.form) (R.Rung.meaning self.now.rung)).loss }
     {
@@ -50,43 +51,37 @@ impl<F: Form, R: Rung> Scale<F, R> {
     }
 }
 
-// A clock's fault is a refusal.
-fn as_refusal<T>(answer: Result<T, Fault>) -> Result<T, Refusal>
-    ensures { result ≡ clocked answer }
+// The only feed is 0.
+fn check_feed(feed: u8) -> Result<(), Refusal>
+    ensures { result ≡ cond (nat_lt 0 feed) (Err Refusal.NoFeed) (Ok tt) }
 {
-    match answer {
-        Ok(x) => Ok(x),
-        Err(fault) => Err(Refusal::Clock(fault)),
+    if feed > 0 {
+        return Err(Refusal::NoFeed);
     }
+    Ok(())
 }
 
 impl<F: Form, R: Rung> Bank for Scale<F, R> {
     ghost meaning = { λ s. one_scale (scale (F.Form.meaning s.form) (R.Rung.meaning s.rung)) };
 
-    ghost lawful = { λ s. one_lawful (scale (F.Form.meaning s.form) (R.Rung.meaning s.rung)) (scale_lawful (F.Form.meaning s.form) (R.Rung.meaning s.rung) (F.Form.lawful s.form) (R.Rung.lawful s.rung)) };
+    ghost lawful = { λ s. one_lawful _ (scale_lawful _ _ (F.Form.lawful s.form) (R.Rung.lawful s.rung)) };
 
     fn feeds(&self) -> u8 {
         1
     }
 
     fn loss(&self, feed: u8) -> Result<u64, Refusal> {
-        if feed > 0 {
-            return Err(Refusal::NoFeed);
-        }
+        check_feed(feed)?;
         Ok(self.told_loss())
     }
 
     fn read(&self, table: &LeapTable, feed: u8, stamp: (u64, u64)) -> Result<u64, Refusal> {
-        if feed > 0 {
-            return Err(Refusal::NoFeed);
-        }
-        as_refusal(self.read_stamp(table, stamp))
+        check_feed(feed)?;
+        Ok(self.read_stamp(table, stamp)?)
     }
 
     fn show(&self, table: &LeapTable, feed: u8, tick: u64) -> Result<(u64, u64), Refusal> {
-        if feed > 0 {
-            return Err(Refusal::NoFeed);
-        }
-        as_refusal(self.show_tick(table, tick))
+        check_feed(feed)?;
+        Ok(self.show_tick(table, tick)?)
     }
 }

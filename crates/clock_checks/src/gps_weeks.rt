@@ -1,8 +1,8 @@
 // GPS stamps. Weeks are counted from 1980-01-06, and a stamp has the week's last ten bits.
-use crate::answers::{LAST_COUNT, NO_COUNT, form_answers, form_ties};
+use crate::answers::{LAST_COUNT, NO_COUNT, form_answers, form_ties, read_fault, show_fault};
 use clocks::form::Form;
 use forms::gps::Gps;
-use refusals::fault::{Cause, Fault, Way};
+use refusals::fault::{Cause, Fault};
 
 // Full weeks 1,800 to 2,823.
 const PIVOT: u64 = 1_800;
@@ -23,75 +23,37 @@ const KNOWN: [((u64, u64), u64); 6] = [
     ((775, 0), 1_707_350_400_000_000_000),
 ];
 
-const READS: [((u64, u64), Result<u64, Fault>); 2] = [
-    (
-        (1_024, 0),
-        Err(Fault {
-            cause: Cause::Field,
-            rung: 0,
-            way: Way::Reading,
-            count: 0,
-        }),
-    ),
-    (
-        (0, 604_800_000),
-        Err(Fault {
-            cause: Cause::Field,
-            rung: 0,
-            way: Way::Reading,
-            count: 0,
-        }),
-    ),
-];
+fn reads() -> [((u64, u64), Result<u64, Fault>); 2] {
+    [
+        ((1_024, 0), Err(read_fault(Cause::Field, 0, 0))),
+        ((0, 604_800_000), Err(read_fault(Cause::Field, 0, 0))),
+    ]
+}
 
-const SHOWS: [(u64, Result<(u64, u64), Fault>); 6] = [
-    // what is below a millisecond is lost
-    (1_167_264_000_000_999_999, Ok((906, 0))),
-    (1_167_264_000_001_999_999, Ok((906, 1))),
-    // the last tick of week 1,799, and the first of week 2,824
-    (
-        1_088_639_999_999_999_999,
-        Err(Fault {
-            cause: Cause::Window,
-            rung: 0,
-            way: Way::Showing,
-            count: 1_088_639_999_999_999_999,
-        }),
-    ),
-    (
-        1_707_955_200_000_000_000,
-        Err(Fault {
-            cause: Cause::Window,
-            rung: 0,
-            way: Way::Showing,
-            count: 1_707_955_200_000_000_000,
-        }),
-    ),
-    (
-        LAST_COUNT,
-        Err(Fault {
-            cause: Cause::Window,
-            rung: 0,
-            way: Way::Showing,
-            count: LAST_COUNT,
-        }),
-    ),
-    (
-        NO_COUNT,
-        Err(Fault {
-            cause: Cause::NoCount,
-            rung: 0,
-            way: Way::Showing,
-            count: NO_COUNT,
-        }),
-    ),
-];
+fn shows() -> [(u64, Result<(u64, u64), Fault>); 6] {
+    [
+        // what is below a millisecond is lost
+        (1_167_264_000_000_999_999, Ok((906, 0))),
+        (1_167_264_000_001_999_999, Ok((906, 1))),
+        // the last tick of week 1,799, and the first of week 2,824
+        (
+            1_088_639_999_999_999_999,
+            Err(show_fault(Cause::Window, 0, 1_088_639_999_999_999_999)),
+        ),
+        (
+            1_707_955_200_000_000_000,
+            Err(show_fault(Cause::Window, 0, 1_707_955_200_000_000_000)),
+        ),
+        (LAST_COUNT, Err(show_fault(Cause::Window, 0, LAST_COUNT))),
+        (NO_COUNT, Err(show_fault(Cause::NoCount, 0, NO_COUNT))),
+    ]
+}
 
 #[test]
 fn weeks_and_milliseconds_are_read_and_shown(rt: HostRuntime) {
     let gps = Gps::new(PIVOT);
     form_ties(&rt, &gps, &KNOWN);
-    form_answers(&rt, &gps, &READS, &SHOWS);
+    form_answers(&rt, &gps, &reads(), &shows());
     assert_eq!(rt; gps.loss(), 999_999);
 }
 

@@ -1,7 +1,7 @@
 // NTP stamps. Seconds are counted from 1900-01-01, 2,208,988,800 before 1970, and a stamp has their last 32 bits.
-use crate::answers::{LAST_COUNT, NO_COUNT, form_answers, form_ties};
+use crate::answers::{LAST_COUNT, NO_COUNT, form_answers, form_ties, read_fault, show_fault};
 use forms::ntp::Ntp;
-use refusals::fault::{Cause, Fault, Way};
+use refusals::fault::{Cause, Fault};
 
 // 2000-01-01 in seconds since 1900-01-01: 36,524 days.
 const PIVOT: u64 = 3_155_673_600;
@@ -24,95 +24,49 @@ const KNOWN: [((u64, u64), u64); 7] = [
 ];
 
 // A fraction is read as the next whole nanosecond, which may be that of the next second.
-const READS: [((u64, u64), Result<u64, Fault>); 7] = [
-    ((3_692_217_600, 1), Ok(1_483_228_800_000_000_001)),
-    ((3_692_217_600, 5), Ok(1_483_228_800_000_000_002)),
-    (
-        (3_692_217_600, 4_294_967_292),
-        Ok(1_483_228_801_000_000_000),
-    ),
-    (
-        (3_692_217_600, 4_294_967_295),
-        Ok(1_483_228_801_000_000_000),
-    ),
-    // the last fraction of the era carries out of its window
-    (
-        (3_155_673_599, 4_294_967_295),
-        Ok(5_241_652_096_000_000_000),
-    ),
-    (
-        (4_294_967_296, 0),
-        Err(Fault {
-            cause: Cause::Field,
-            rung: 0,
-            way: Way::Reading,
-            count: 0,
-        }),
-    ),
-    (
-        (0, 4_294_967_296),
-        Err(Fault {
-            cause: Cause::Field,
-            rung: 0,
-            way: Way::Reading,
-            count: 0,
-        }),
-    ),
-];
+fn reads() -> [((u64, u64), Result<u64, Fault>); 7] {
+    [
+        ((3_692_217_600, 1), Ok(1_483_228_800_000_000_001)),
+        ((3_692_217_600, 5), Ok(1_483_228_800_000_000_002)),
+        (
+            (3_692_217_600, 4_294_967_292),
+            Ok(1_483_228_801_000_000_000),
+        ),
+        (
+            (3_692_217_600, 4_294_967_295),
+            Ok(1_483_228_801_000_000_000),
+        ),
+        // the last fraction of the era carries out of its window
+        (
+            (3_155_673_599, 4_294_967_295),
+            Ok(5_241_652_096_000_000_000),
+        ),
+        ((4_294_967_296, 0), Err(read_fault(Cause::Field, 0, 0))),
+        ((0, 4_294_967_296), Err(read_fault(Cause::Field, 0, 0))),
+    ]
+}
 
-const SHOWS: [(u64, Result<(u64, u64), Fault>); 5] = [
-    (
-        0,
-        Err(Fault {
-            cause: Cause::Window,
-            rung: 0,
-            way: Way::Showing,
-            count: 0,
-        }),
-    ),
-    (
-        946_684_799_999_999_999,
-        Err(Fault {
-            cause: Cause::Window,
-            rung: 0,
-            way: Way::Showing,
-            count: 946_684_799_999_999_999,
-        }),
-    ),
-    (
-        5_241_652_096_000_000_000,
-        Err(Fault {
-            cause: Cause::Window,
-            rung: 0,
-            way: Way::Showing,
-            count: 5_241_652_096_000_000_000,
-        }),
-    ),
-    (
-        LAST_COUNT,
-        Err(Fault {
-            cause: Cause::Window,
-            rung: 0,
-            way: Way::Showing,
-            count: LAST_COUNT,
-        }),
-    ),
-    (
-        NO_COUNT,
-        Err(Fault {
-            cause: Cause::NoCount,
-            rung: 0,
-            way: Way::Showing,
-            count: NO_COUNT,
-        }),
-    ),
-];
+fn shows() -> [(u64, Result<(u64, u64), Fault>); 5] {
+    [
+        (0, Err(show_fault(Cause::Window, 0, 0))),
+        (
+            946_684_799_999_999_999,
+            Err(show_fault(Cause::Window, 0, 946_684_799_999_999_999)),
+        ),
+        (
+            5_241_652_096_000_000_000,
+            Err(show_fault(Cause::Window, 0, 5_241_652_096_000_000_000)),
+        ),
+        (LAST_COUNT, Err(show_fault(Cause::Window, 0, LAST_COUNT))),
+        (NO_COUNT, Err(show_fault(Cause::NoCount, 0, NO_COUNT))),
+    ]
+}
 
 #[test]
 fn seconds_and_fractions_are_read_and_shown(rt: HostRuntime) {
     let ntp = Ntp::new(PIVOT);
     form_ties(&rt, &ntp, &KNOWN);
-    form_answers(&rt, &ntp, &READS, &SHOWS);
+    form_answers(&rt, &ntp, &reads(), &shows());
 }
 
 // With the first and the last pivot, the first and the last second.

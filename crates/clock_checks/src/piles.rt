@@ -1,105 +1,40 @@
 // Piles of three rungs: a coarse clock of step 5 over an offset of 5 over a coarse clock of step 2.
-use crate::answers::{NO_COUNT, rung_answers};
+use crate::answers::{NO_COUNT, read_fault, rung_answers, show_fault};
 use clocks::rung::Rung;
-use refusals::fault::{Cause, Fault, Way};
+use refusals::fault::{Cause, Fault};
 use rungs::coarse::Coarse;
 use rungs::offset::Offset;
 use rungs::pile::Pile;
 use rungs::tai::Tai;
 
 // Faults from the top, the middle and the bottom: rung 0, 1 and 2, with the count that the rung was handed.
-const READS: [(u64, Result<u64, Fault>); 7] = [
-    (5, Ok(10)),
-    (15, Ok(20)),
-    (
-        NO_COUNT,
-        Err(Fault {
-            cause: Cause::NoCount,
-            rung: 0,
-            way: Way::Reading,
-            count: NO_COUNT,
-        }),
-    ),
-    (
-        4,
-        Err(Fault {
-            cause: Cause::NotMultiple,
-            rung: 0,
-            way: Way::Reading,
-            count: 4,
-        }),
-    ),
-    (
-        7_999_999_999_999_999_995,
-        Err(Fault {
-            cause: Cause::NoCount,
-            rung: 1,
-            way: Way::Reading,
-            count: 7_999_999_999_999_999_995,
-        }),
-    ),
-    (
-        0,
-        Err(Fault {
-            cause: Cause::NotMultiple,
-            rung: 2,
-            way: Way::Reading,
-            count: 5,
-        }),
-    ),
-    (
-        10,
-        Err(Fault {
-            cause: Cause::NotMultiple,
-            rung: 2,
-            way: Way::Reading,
-            count: 15,
-        }),
-    ),
-];
+fn reads() -> [(u64, Result<u64, Fault>); 7] {
+    [
+        (5, Ok(10)),
+        (15, Ok(20)),
+        (NO_COUNT, Err(read_fault(Cause::NoCount, 0, NO_COUNT))),
+        (4, Err(read_fault(Cause::NotMultiple, 0, 4))),
+        (
+            7_999_999_999_999_999_995,
+            Err(read_fault(Cause::NoCount, 1, 7_999_999_999_999_999_995)),
+        ),
+        (0, Err(read_fault(Cause::NotMultiple, 2, 5))),
+        (10, Err(read_fault(Cause::NotMultiple, 2, 15))),
+    ]
+}
 
-const SHOWS: [(u64, Result<u64, Fault>); 7] = [
-    (10, Ok(5)),
-    (12, Ok(5)),
-    (21, Ok(15)),
-    (
-        NO_COUNT,
-        Err(Fault {
-            cause: Cause::NoCount,
-            rung: 2,
-            way: Way::Showing,
-            count: NO_COUNT,
-        }),
-    ),
-    (
-        4,
-        Err(Fault {
-            cause: Cause::NoCount,
-            rung: 1,
-            way: Way::Showing,
-            count: 4,
-        }),
-    ),
-    (
-        5,
-        Err(Fault {
-            cause: Cause::NoCount,
-            rung: 1,
-            way: Way::Showing,
-            count: 4,
-        }),
-    ),
-    // 8 is 8 below, 3 in the middle and 0 above, which is read as 5: the bottom does not read that
-    (
-        8,
-        Err(Fault {
-            cause: Cause::NotMultiple,
-            rung: 2,
-            way: Way::Reading,
-            count: 5,
-        }),
-    ),
-];
+fn shows() -> [(u64, Result<u64, Fault>); 7] {
+    [
+        (10, Ok(5)),
+        (12, Ok(5)),
+        (21, Ok(15)),
+        (NO_COUNT, Err(show_fault(Cause::NoCount, 2, NO_COUNT))),
+        (4, Err(show_fault(Cause::NoCount, 1, 4))),
+        (5, Err(show_fault(Cause::NoCount, 1, 4))),
+        // 8 is 8 below, 3 in the middle and 0 above, which is read as 5: the bottom does not read that
+        (8, Err(read_fault(Cause::NotMultiple, 2, 5))),
+    ]
+}
 
 // However the three are put together, they answer so.
 #[test]
@@ -111,7 +46,7 @@ fn three_rungs_tell_faults_from_each_of_them(rt: HostRuntime) {
             lower: Coarse::new(2),
         },
     };
-    rung_answers(&rt, &pile, &READS, &SHOWS);
+    rung_answers(&rt, &pile, &reads(), &shows());
     let pile = Pile {
         upper: Pile {
             upper: Coarse::new(5),
@@ -119,7 +54,7 @@ fn three_rungs_tell_faults_from_each_of_them(rt: HostRuntime) {
         },
         lower: Coarse::new(2),
     };
-    rung_answers(&rt, &pile, &READS, &SHOWS);
+    rung_answers(&rt, &pile, &reads(), &shows());
     assert_eq!(rt; pile.loss(), 5);
     assert_eq!(rt; pile.spread(12), 12);
     assert_eq!(rt; pile.rungs(), 3);

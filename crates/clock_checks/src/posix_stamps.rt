@@ -1,7 +1,7 @@
 // POSIX stamps: seconds and nanoseconds.
-use crate::answers::{LAST_COUNT, NO_COUNT, form_answers, form_ties};
+use crate::answers::{LAST_COUNT, NO_COUNT, form_answers, form_ties, read_fault, show_fault};
 use forms::posix::Posix;
-use refusals::fault::{Cause, Fault, Way};
+use refusals::fault::{Cause, Fault};
 
 const KNOWN: [((u64, u64), u64); 5] = [
     ((0, 0), 0),
@@ -11,59 +11,23 @@ const KNOWN: [((u64, u64), u64); 5] = [
     ((7_999_999_999, 999_999_999), LAST_COUNT),
 ];
 
-const READS: [((u64, u64), Result<u64, Fault>); 3] = [
-    (
-        (8_000_000_000, 0),
-        Err(Fault {
-            cause: Cause::Field,
-            rung: 0,
-            way: Way::Reading,
-            count: 0,
-        }),
-    ),
-    (
-        (0, 1_000_000_000),
-        Err(Fault {
-            cause: Cause::Field,
-            rung: 0,
-            way: Way::Reading,
-            count: 0,
-        }),
-    ),
-    (
-        (u64::MAX, u64::MAX),
-        Err(Fault {
-            cause: Cause::Field,
-            rung: 0,
-            way: Way::Reading,
-            count: 0,
-        }),
-    ),
-];
+fn reads() -> [((u64, u64), Result<u64, Fault>); 3] {
+    [
+        ((8_000_000_000, 0), Err(read_fault(Cause::Field, 0, 0))),
+        ((0, 1_000_000_000), Err(read_fault(Cause::Field, 0, 0))),
+        ((u64::MAX, u64::MAX), Err(read_fault(Cause::Field, 0, 0))),
+    ]
+}
 
-const SHOWS: [(u64, Result<(u64, u64), Fault>); 2] = [
-    (
-        NO_COUNT,
-        Err(Fault {
-            cause: Cause::NoCount,
-            rung: 0,
-            way: Way::Showing,
-            count: NO_COUNT,
-        }),
-    ),
-    (
-        u64::MAX,
-        Err(Fault {
-            cause: Cause::NoCount,
-            rung: 0,
-            way: Way::Showing,
-            count: u64::MAX,
-        }),
-    ),
-];
+fn shows() -> [(u64, Result<(u64, u64), Fault>); 2] {
+    [
+        (NO_COUNT, Err(show_fault(Cause::NoCount, 0, NO_COUNT))),
+        (u64::MAX, Err(show_fault(Cause::NoCount, 0, u64::MAX))),
+    ]
+}
 
 #[test]
 fn seconds_and_nanoseconds_are_read_and_shown(rt: HostRuntime) {
     form_ties(&rt, &Posix, &KNOWN);
-    form_answers(&rt, &Posix, &READS, &SHOWS);
+    form_answers(&rt, &Posix, &reads(), &shows());
 }

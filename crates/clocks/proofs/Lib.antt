@@ -1,7 +1,8 @@
 pub mod Steps
+pub mod Both
 pub mod Piles
 pub mod Scales
 pub mod Besides
-pub mod Told
 pub mod Simples
 pub mod Stamping
+pub mod Told

@@ -2,15 +2,17 @@
 ghost use Rattle.clocks.specs.Stamps.{posix};
 ghost use Rattle.clocks.proofs.Stamping.{posix_lawful};
 
-use clocks::fault::own_fault;
+use crate::fields::checked;
+use clocks::fault::counted;
 use clocks::form::Form;
-use clocks::limits::{COUNT_END, SECOND};
+use clocks::limits::SECOND;
 use leap::table::LeapTable;
-use refusals::fault::{Cause, Fault, Way};
+use refusals::fault::{Fault, Way};
 
 // The seconds that have counts.
 const SECONDS_END: u64 = 8_000_000_000;
 
+/// POSIX stamps.
 #[derive(Clone, Copy)]
 pub struct Posix;
 
@@ -20,17 +22,12 @@ impl Form for Posix {
     ghost lawful = { λ _. posix_lawful };
 
     fn read(&self, _table: &LeapTable, stamp: (u64, u64)) -> Result<u64, Fault> {
-        let (seconds, nanos) = stamp;
-        if seconds >= SECONDS_END || nanos >= SECOND {
-            return Err(own_fault(Cause::Field, Way::Reading, 0));
-        }
+        let (seconds, nanos) = checked(stamp, (SECONDS_END, SECOND))?;
         Ok(seconds * SECOND + nanos)
     }
 
     fn show(&self, _table: &LeapTable, count: u64) -> Result<(u64, u64), Fault> {
-        if count >= COUNT_END {
-            return Err(own_fault(Cause::NoCount, Way::Showing, count));
-        }
+        counted(Way::Showing, count)?;
         Ok((count / SECOND, count % SECOND))
     }
 

@@ -3,14 +3,16 @@ ghost use Rattle.std.specs.Prelude.{◌≡◌, ◌≤◌, min, max};
 ghost use Rattle.clocks.specs.Simple.{coarse, coarse_limit};
 ghost use Rattle.clocks.proofs.Simples.{coarse_lawful};
 
-use clocks::fault::own_fault;
-use clocks::limits::{COUNT_END, TOLD_LIMIT};
+use clocks::fault::{counted, own_fault};
+use clocks::limits::TOLD_LIMIT;
 use clocks::rung::Rung;
 use leap::table::LeapTable;
 use refusals::fault::{Cause, Fault, Way};
 
 const LARGEST_STEP: u64 = 10_000_000_000_000;
 
+/// The clock of one step.
+// Ghost fields and no model: the laws hold from a step of 1 on, and a model's value could be any number.
 #[derive(Clone, Copy)]
 pub struct Coarse {
     step: u64,
@@ -19,12 +21,12 @@ pub struct Coarse {
 }
 
 impl Coarse {
-    // A step outside its limits becomes the nearest limit.
+    /// A step outside its limits becomes the nearest limit.
     pub fn new(step: u64) -> Coarse
         ensures { result.step ≡ min coarse_limit (max 1 step) }
     {
         Coarse {
-            step: step.max(1).min(LARGEST_STEP),
+            step: step.clamp(1, LARGEST_STEP),
         }
     }
 }
@@ -35,9 +37,7 @@ impl Rung for Coarse {
     ghost lawful = { λ s. coarse_lawful s.step s.some };
 
     fn read(&self, _table: &LeapTable, count: u64) -> Result<u64, Fault> {
-        if count >= COUNT_END {
-            return Err(own_fault(Cause::NoCount, Way::Reading, count));
-        }
+        counted(Way::Reading, count)?;
         if count % self.step > 0 {
             return Err(own_fault(Cause::NotMultiple, Way::Reading, count));
         }
@@ -45,9 +45,7 @@ impl Rung for Coarse {
     }
 
     fn show(&self, _table: &LeapTable, count: u64) -> Result<u64, Fault> {
-        if count >= COUNT_END {
-            return Err(own_fault(Cause::NoCount, Way::Showing, count));
-        }
+        counted(Way::Showing, count)?;
         Ok(count - count % self.step)
     }
 

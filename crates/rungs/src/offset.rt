@@ -3,12 +3,14 @@ ghost use Rattle.std.specs.Prelude.{◌≡◌, ◌≤◌, min};
 ghost use Rattle.clocks.specs.Simple.{offset, offset_limit};
 ghost use Rattle.clocks.proofs.Simples.{offset_lawful};
 
-use clocks::fault::own_fault;
+use clocks::fault::{counted, own_fault};
 use clocks::limits::{COUNT_END, TOLD_LIMIT};
 use clocks::rung::Rung;
 use leap::table::LeapTable;
 use refusals::fault::{Cause, Fault, Way};
 
+/// The clock of one offset.
+// A ghost field and no model: with a model that gives its field back (tried), a pile or a scale over an offset can't be copied.
 #[derive(Clone, Copy)]
 pub struct Offset {
     by: u64,
@@ -16,7 +18,7 @@ pub struct Offset {
 }
 
 impl Offset {
-    // An offset outside its limits becomes the nearest limit.
+    /// An offset outside its limits becomes the nearest limit.
     pub fn new(by: u64) -> Offset
         ensures { result.by ≡ min offset_limit by }
     {
@@ -32,10 +34,7 @@ impl Rung for Offset {
     ghost lawful = { λ s. offset_lawful s.by };
 
     fn read(&self, _table: &LeapTable, count: u64) -> Result<u64, Fault> {
-        if count >= COUNT_END {
-            return Err(own_fault(Cause::NoCount, Way::Reading, count));
-        }
-        let below = count + self.by;
+        let below = counted(Way::Reading, count)? + self.by;
         if below >= COUNT_END {
             return Err(own_fault(Cause::NoCount, Way::Reading, count));
         }
@@ -43,7 +42,8 @@ impl Rung for Offset {
     }
 
     fn show(&self, _table: &LeapTable, count: u64) -> Result<u64, Fault> {
-        if count >= COUNT_END || count < self.by {
+        counted(Way::Showing, count)?;
+        if count < self.by {
             return Err(own_fault(Cause::NoCount, Way::Showing, count));
         }
         Ok(count - self.by)

@@ -8,6 +8,7 @@ use clocks::rung::Rung;
 use leap::table::LeapTable;
 use refusals::fault::Fault;
 
+/// One rung over another.
 #[derive(Clone, Copy)]
 pub struct Pile<U, V> {
     pub upper: U,
@@ -17,7 +18,7 @@ pub struct Pile<U, V> {
 impl<U: Rung, V: Rung> Rung for Pile<U, V> {
     ghost meaning = { λ s. pile (U.Rung.meaning s.upper) (V.Rung.meaning s.lower) };
 
-    ghost lawful = { λ s. pile_lawful (U.Rung.meaning s.upper) (V.Rung.meaning s.lower) (U.Rung.lawful s.upper) (V.Rung.lawful s.lower) };
+    ghost lawful = { λ s. pile_lawful _ _ (U.Rung.lawful s.upper) (V.Rung.lawful s.lower) };
 
     fn read(&self, table: &LeapTable, count: u64) -> Result<u64, Fault> {
         let middle = self.upper.read(table, count)?;

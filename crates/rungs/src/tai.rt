@@ -2,12 +2,13 @@
 ghost use Rattle.clocks.specs.Simple.{tai};
 ghost use Rattle.clocks.proofs.Simples.{tai_lawful};
 
-use clocks::fault::own_fault;
-use clocks::limits::{COUNT_END, TOLD_LIMIT};
+use clocks::fault::counted;
+use clocks::limits::TOLD_LIMIT;
 use clocks::rung::Rung;
 use leap::table::LeapTable;
-use refusals::fault::{Cause, Fault, Way};
+use refusals::fault::{Fault, Way};
 
+/// TAI itself.
 #[derive(Clone, Copy)]
 pub struct Tai;
 
@@ -17,17 +18,11 @@ impl Rung for Tai {
     ghost lawful = { λ _. tai_lawful };
 
     fn read(&self, _table: &LeapTable, count: u64) -> Result<u64, Fault> {
-        if count >= COUNT_END {
-            return Err(own_fault(Cause::NoCount, Way::Reading, count));
-        }
-        Ok(count)
+        counted(Way::Reading, count)
     }
 
     fn show(&self, _table: &LeapTable, count: u64) -> Result<u64, Fault> {
-        if count >= COUNT_END {
-            return Err(own_fault(Cause::NoCount, Way::Showing, count));
-        }
-        Ok(count)
+        counted(Way::Showing, count)
     }
 
     fn loss(&self) -> u64 {

@@ -1,6 +1,5 @@
 // The standard bank. Feed 0: POSIX over TAI.
 ghost use Rattle.std.specs.Prelude.{◌≡◌};
-ghost use Rattle.leap.specs.Held.{table_of};
 ghost use Rattle.clocks.specs.Banks.{bank_reads, bank_shows};
 ghost use Rattle.standard.specs.Standard.{standard};
 
@@ -20,16 +19,16 @@ pub const STANDARD_BANK: StandardBank = Scale {
     rung: Tai,
 };
 
-// The tick of a stamp (hi, lo) of a standard feed.
+/// The tick of a stamp (hi, lo) of a standard feed.
 pub fn read_standard(table: &LeapTable, feed: u8, stamp: (u64, u64)) -> Result<u64, Refusal>
-    ensures { result ≡ bank_reads standard (table_of table.now) feed stamp }
+    ensures { result ≡ bank_reads standard table.now feed stamp }
 {
     STANDARD_BANK.read(table, feed, stamp)
 }
 
-// The stamp that a tick shows on a standard feed.
+/// The stamp that a tick shows on a standard feed.
 pub fn show_standard(table: &LeapTable, feed: u8, tick: u64) -> Result<(u64, u64), Refusal>
-    ensures { result ≡ bank_shows standard (table_of table.now) feed tick }
+    ensures { result ≡ bank_shows standard table.now feed tick }
 {
     STANDARD_BANK.show(table, feed, tick)
 }

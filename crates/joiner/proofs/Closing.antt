@@ -1,53 +1,42 @@
--- What close makes of a feed.
-use Rattle.std.proofs.Common.{◌≡◌, ℕ, Bool, cond, List, length, get_or, set, Some, None, Ok, Err, sym, refl, ap, ◌∙◌}
+-- What close answers, and what it leaves of the feeds and of the queue.
+use Rattle.std.proofs.Common.{◌≡◌, ℕ, Bool, cond, List, length, set, Some, Ok, Err, sym, refl, ap, ◌∙◌}
 use Rattle.std.specs.List.{slice_get}
-use Rattle.std.proofs.lemmas.Bool.{lt-leb, le-leb}
-use Rattle.refusals.specs.Said.{Said, plain}
+use Rattle.std.proofs.lemmas.Bool.{lt-leb}
+use Rattle.std.proofs.lemmas.Option.{get_or_from_slice_get, slice_get_within}
+use Rattle.refusals.specs.Said.{plain}
 use Rattle.order.specs.declared.state.FeedState.{FeedState}
 use Rattle.order.specs.declared.state.FeedState.TheVariants.{Idle, Holding, Closing, Closed}
 use Rattle.order.specs.Desk.{State, feed_state, close_at, close_plan}
-use Rattle.order.specs.Queue.{has_record, Queued, Counted}
-use Rattle.order.proofs.Queues.{count_same, queued_same}
+use Rattle.order.specs.Queue.{has_record}
+use Rattle.order.proofs.Queues.{Waiting, close_waiting}
 use Rattle.order.proofs.Steps.{ok≢err}
 use Rattle.joiner.specs.declared.moves.Move.TheVariants.{Close}
 use Rattle.joiner.specs.Moves.{changed, change_answer}
-use Rattle.joiner.proofs.Putting.{found, not_found}
 
-module _ (s : State) (f : ℕ) where
-  pub close_nowhere : None ≡ slice_get s.feeds f → close_plan s f ≡ Err (plain 4)
-  close_nowhere e = rw (le-leb (length s.feeds) f (not_found s.feeds f e))
+module _ (v : FeedState) (ok : Ok tt ≡ change_answer v Close) where
+  closes : close_at v ≡ Ok (changed v Close)
+  closes = go v ok
+    where
+      go : (w : FeedState) → Ok tt ≡ change_answer w Close → close_at w ≡ Ok (changed w Close)
+      go Idle q = refl
+      go (Holding t) q = refl
+      go (Closing t) q = absurd (ok≢err q)
+      go Closed q = absurd (ok≢err q)
 
-  module _ (v : FeedState) (at : Some v ≡ slice_get s.feeds f) where
-    close_somewhere : close_plan s f ≡ close_at v
-    close_somewhere =
-        let r = found s.feeds f v at in
-        ap (λ (b : Bool). cond b (Err (plain 4)) (close_at (feed_state s f))) (lt-leb (length s.feeds) f r.0) ∙ ap close_at r.1
+  same : has_record (changed v Close) ≡ has_record v
+  same = go v ok
+    where
+      go : (w : FeedState) → Ok tt ≡ change_answer w Close → has_record (changed w Close) ≡ has_record w
+      go Idle q = refl
+      go (Holding t) q = refl
+      go (Closing t) q = absurd (ok≢err q)
+      go Closed q = absurd (ok≢err q)
 
-    pub close_refused : (z : Said) → Err z ≡ change_answer v Close → close_plan s f ≡ Err z
-    close_refused z e = close_somewhere ∙ go v e
-      where
-        go : (w : FeedState) → Err z ≡ change_answer w Close → close_at w ≡ Err z
-        go Idle q = absurd (ok≢err (sym q))
-        go (Holding t) q = absurd (ok≢err (sym q))
-        go (Closing t) q = cc
-        go Closed q = cc
+  pub close_waits : (xs ys : List FeedState) (q : List ℕ) (f : ℕ) → slice_get xs f ≡ Some v → Waiting xs q → ys ≡ set xs f (changed v Close) → Waiting ys q
+  close_waits xs ys q f at waiting a =
+      rw a (close_waiting xs q f waiting (changed v Close) (slice_get_within xs f v at) (same ∙ ap has_record (sym (get_or_from_slice_get xs f v Closed at))))
 
-    pub close_done : Ok tt ≡ change_answer v Close → (close_plan s f ≡ Ok (changed v Close)) × (has_record (changed v Close) ≡ has_record v)
-    close_done e = let r = go v e in (close_somewhere ∙ r.0, r.1)
-      where
-        go : (w : FeedState) → Ok tt ≡ change_answer w Close → (close_at w ≡ Ok (changed w Close)) × (has_record (changed w Close) ≡ has_record w)
-        go Idle q = (refl, refl)
-        go (Holding t) q = (refl, refl)
-        go (Closing t) q = absurd (ok≢err q)
-        go Closed q = absurd (ok≢err q)
-
--- a feed whose having a record does not change leaves the queue right
-module _ (xs : List FeedState) (q : List ℕ) (f : ℕ) (v w : FeedState) (at : Some v ≡ slice_get xs f) (same : has_record w ≡ has_record v) where
-  still : has_record w ≡ has_record (get_or xs f Closed)
-  still = same ∙ ap has_record (sym (found xs f v at).1)
-
-  pub same_counted : Counted xs (length q) → Counted (set xs f w) (length q)
-  same_counted c = c ∙ sym (count_same has_record xs f w Closed still)
-
-  pub same_queued : Queued xs q → Queued (set xs f w) q
-  same_queued h = queued_same xs f w q (found xs f v at).0 still h
+  pub close_done : (s : State) (f : ℕ) → slice_get s.feeds f ≡ Some v → close_plan s f ≡ Ok (changed v Close)
+  close_done s f at =
+      ap (λ (b : Bool). cond b (Err (plain 4)) (close_at (feed_state s f))) (lt-leb (length s.feeds) f (slice_get_within s.feeds f v at))
+      ∙ ap close_at (get_or_from_slice_get s.feeds f v Closed at) ∙ closes

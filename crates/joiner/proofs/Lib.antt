@@ -1,3 +1,4 @@
+mod Found
 mod Rings
 mod Masking
 mod Putting

@@ -1,26 +1,25 @@
--- What take makes of a feed and of the queue.
-use Rattle.std.proofs.Common.{◌≡◌, ℕ, zero, suc, ◌≤◌, Bool, false, List, [], ◌∷◌, length, get_or, set, Some, None, Ok, Result, sym, refl, ap, ◌∙◌, subst, arith}
+-- What take answers, and what it leaves of the feeds and of the queue.
+use Rattle.std.proofs.Common.{◌≡◌, ℕ, zero, suc, ◌<◌, ◌≤◌, Bool, true, false, cond, List, [], ◌∷◌, length, get_or, set, Some, None, Ok, Err, Result, sym, refl, ap, ◌∙◌, subst, arith}
 use Rattle.std.specs.List.{slice_get}
-use Rattle.std.proofs.lemmas.Option.{slice_get-get_or}
 use Rattle.std.proofs.lemmas.Bool.{le-ltb}
-use Rattle.refusals.specs.Said.{Said}
+use Rattle.std.proofs.lemmas.Option.{get_or_from_slice_get, slice_get-get_or, slice_get_within, none-some, cond_some}
+use Rattle.refusals.specs.Said.{Said, none_waits}
 use Rattle.calls.specs.declared.call.Handed.{Handed}
 use Rattle.order.specs.declared.state.FeedState.{FeedState}
 use Rattle.order.specs.declared.state.FeedState.TheVariants.{Idle, Holding, Closing, Closed}
-use Rattle.order.specs.Desk.{State, feed_state, held, released, rest, TakeAnswer, take_if_short, take_at, after_take}
-use Rattle.order.specs.Queue.{has_record, Queued, Counted}
-use Rattle.order.proofs.Queues.{head_waits, count_less, queued_less}
+use Rattle.order.specs.Desk.{State, feed_state, held, released, rest, TakeAnswer, take_if_short, take_at, after_take, idle_count, waits_none}
+use Rattle.order.specs.Queue.{has_record}
+use Rattle.order.proofs.Masks.{some_idle}
+use Rattle.order.proofs.Queues.{Waiting, head_inside, take_waiting}
 use Rattle.joiner.specs.declared.moves.Move.TheVariants.{Take}
-use Rattle.joiner.specs.Held.{first_of}
 use Rattle.joiner.specs.Moves.{changed}
-use Rattle.joiner.proofs.Putting.{found, not_found}
 
 -- the queue begins with its first
-pub head_first : (q : List ℕ) (f : ℕ) → Some f ≡ first_of q → q ≡ f ∷ rest q
-head_first [] f e = let z : ◌≡◌ {A = ℕ} 0 1 = cc in absurd (omega arith)
-head_first (x ∷ q) f e = let s : f ≡ x = cc in ap (λ (z : ℕ). z ∷ q) (sym s)
+begins : (q : List ℕ) (f : ℕ) → Some f ≡ slice_get q 0 → q ≡ f ∷ rest q
+begins [] f e = absurd (none-some f (sym e))
+begins (x ∷ q) f e = let s : f ≡ x = cc in ap (λ (z : ℕ). z ∷ q) (sym s)
 
-pub released_as : (v : FeedState) → changed v Take ≡ released v
+released_as : (v : FeedState) → changed v Take ≡ released v
 released_as Idle = refl
 released_as (Holding t) = refl
 released_as (Closing t) = refl
@@ -32,44 +31,45 @@ released_none (Holding t) = refl
 released_none (Closing t) = refl
 released_none Closed = refl
 
-past_closed : (xs : List FeedState) (f : ℕ) → length xs ≤ f → get_or xs f Closed ≡ Closed
-past_closed [] f h = refl
-past_closed (x ∷ xs) zero h = let z : ⊥ = omega arith in absurd z
-past_closed (x ∷ xs) (suc f) h = past_closed xs f (omega arith)
+-- the feed that waits longest is one of the joiner's, and has a record
+module _ (xs : List FeedState) (q : List ℕ) (f : ℕ) (head : Some f ≡ slice_get q 0) (waiting : Waiting xs q) where
+  led : Waiting xs (f ∷ rest q)
+  led = subst (Waiting xs) (begins q f head) waiting
 
-module _ (xs : List FeedState) (q : List ℕ) (f : ℕ) (first : Some f ≡ first_of q) (queued : Queued xs q) where
-  begins : Queued xs (f ∷ rest q)
-  begins = subst (λ (z : List ℕ). Queued xs z) (head_first q f first) queued
+  pub has_state : slice_get xs f ≡ None → ⊥
+  has_state e = none-some (get_or xs f Closed) (sym e ∙ slice_get-get_or xs f Closed (head_inside xs f (rest q) led).0)
 
-  -- the feed that waits longest is one of the joiner's
-  pub waits_here : None ≡ slice_get xs f → ⊥
-  waits_here e =
-      let w = (head_waits xs f (rest q) begins).0 in
-      let n = ap has_record (past_closed xs f (not_found xs f e)) in
-      let z : ◌≡◌ {A = ℕ} 0 1 = cc in
-      omega arith
+  module _ (v : FeedState) (at : slice_get xs f ≡ Some v) where
+    holds : has_record v ≡ true
+    holds = ap has_record (sym (get_or_from_slice_get xs f v Closed at)) ∙ (head_inside xs f (rest q) led).1
 
-  module _ (v : FeedState) (at : Some v ≡ slice_get xs f) where
-    pub take_counted : Counted xs (length q) → Counted (set xs f (released v)) (length (rest q))
-    take_counted c =
-        let less = count_less has_record xs f (released v) Closed (found xs f v at).0 (head_waits xs f (rest q) begins).0 (released_none v) in
-        omega (arith, ap length (head_first q f first))
+    pub has_tick : cond (has_record v) (Some (held v)) None ≡ None → ⊥
+    has_tick e = none-some (held v) (sym e ∙ ap (λ b. cond b (Some (held v)) None) holds)
 
-    pub take_queued : Queued (set xs f (released v)) (rest q)
-    take_queued = queued_less xs f (released v) (rest q) (found xs f v at).0 (released_none v) begins
+    pub take_waits : (ys : List FeedState) (p : List ℕ) → ys ≡ set xs f (changed v Take) → p ≡ rest q → Waiting ys p
+    take_waits ys p a b = rw (a, b, released_as v) (take_waiting xs f (rest q) (released v) (released_none v) led)
 
-module _ {T : Type 0} (s : State) (slots : List T) (f : ℕ) (first : Some f ≡ first_of s.queue) (v : FeedState) (at : Some v ≡ slice_get s.feeds f) where
-  pub take_answered : (t : ℕ) (x : T) → length s.feeds ≤ length slots → t ≡ held v → x ≡ get_or slots f x → TakeAnswer s slots (Ok (record { feed = f; tick = t; body = x }))
-  take_answered t x room e b =
-      let there = found s.feeds f v at in
+module _ {T : Type 0} (s : State) (slots : List T) (f t : ℕ) (head : Some f ≡ slice_get s.queue 0) (v : FeedState) (at : slice_get s.feeds f ≡ Some v) where
+  pub take_answered : (j : ℕ) (d : T) → f < length s.feeds → length s.feeds ≤ length slots → j ≡ f → cond (has_record v) (Some (held v)) None ≡ Some t →
+      TakeAnswer s slots (Ok (record { feed = f; tick = t; body = get_or slots j d }))
+  take_answered j d inside room e ticks =
+      let x = get_or slots j d in
       let r : Result (Handed T) Said = Ok (record { feed = f; tick = t; body = x }) in
-      let tick : t ≡ held (feed_state s f) = e ∙ ap held (sym there.1) in
+      let tick : t ≡ held (feed_state s f) = sym (cond_some (has_record v) (held v) t ticks).1 ∙ ap held (sym (get_or_from_slice_get s.feeds f v Closed at)) in
       subst (λ (z : Bool). take_if_short s slots z r) (sym (le-ltb (length slots) (length s.feeds) room))
-      (subst (λ (z : List ℕ). take_at s slots z r) (sym (head_first s.queue f first))
-      (x, slice_get-get_or slots f x (let i = there.0 in omega arith) ∙ ap Some (sym b), λ i. Ok (record { feed = f; tick = tick i; body = x })))
+      (subst (λ (z : List ℕ). take_at s slots z r) (sym (begins s.queue f head))
+      (x, slice_get-get_or slots f d (omega arith) ∙ ap (λ (i : ℕ). Some (get_or slots i d)) (sym e), λ i. Ok (record { feed = f; tick = tick i; body = x })))
 
-  pub take_state : (feeds : List FeedState) (queue : List ℕ) (t : ℕ) (x : T) → feeds ≡ set s.feeds f (released v) → queue ≡ rest s.queue →
-      ◌≡◌ {A = State} (record { table = s.table; feeds = feeds; queue = queue; last = s.last }) (after_take s (Ok (record { feed = f; tick = t; body = x })))
-  take_state feeds queue t x a b =
-      let e : feeds ≡ set s.feeds f (released (feed_state s f)) = a ∙ ap (λ (z : FeedState). set s.feeds f (released z)) (sym (found s.feeds f v at).1) in
+  pub take_state : (ys : List FeedState) (p : List ℕ) (x : T) → ys ≡ set s.feeds f (changed v Take) → p ≡ rest s.queue →
+      ◌≡◌ {A = State} (record { table = s.table; feeds = ys; queue = p; last = s.last }) (after_take s (Ok (record { feed = f; tick = t; body = x })))
+  take_state ys p x a b =
+      let e : ys ≡ set s.feeds f (released (feed_state s f)) = a ∙ ap (set s.feeds f) (released_as v ∙ ap released (sym (get_or_from_slice_get s.feeds f v Closed at))) in
       λ i. record { table = s.table; feeds = e i; queue = b i; last = s.last }
+
+-- where no record waits and a feed is idle, 17 names that feed, and tells how many are
+pub idle_named : (T : Type 0) (s : State) (f n : ℕ) → n ≡ idle_count s → slice_get s.feeds f ≡ Some Idle → waits_none {T = T} s (idle_count s) (Err (none_waits n f))
+idle_named T s f n e at = go (idle_count s) refl
+  where
+    go : (k : ℕ) → idle_count s ≡ k → waits_none {T = T} s k (Err (none_waits n f))
+    go zero h = let none : ⊥ = omega (arith, some_idle s.feeds f at) in absurd none
+    go (suc k) h = (f, slice_get_within s.feeds f Idle at, get_or_from_slice_get s.feeds f Idle Closed at, ap (λ j. Err (none_waits j f)) (e ∙ h))

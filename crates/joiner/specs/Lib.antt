@@ -1,3 +1,3 @@
-pub mod Held
+pub mod Ring
 pub mod Moves
 pub mod Joiner

@@ -11,7 +11,7 @@ use leap::bulletin::Bulletin;
 use refusals::refusal::Refusal;
 
 impl<B: Bank> Joiner<B> {
-    // Renews the leap table, or refuses the bulletin and alters nothing.
+    /// Renews the leap table, or refuses the bulletin and alters nothing.
     pub fn bulletin(&mut self, bulletin: Bulletin) -> Result<(), Refusal>
         ensures answer { told result ≡ judged (state_of self.old).table bulletin }
         ensures state { state_of self.new ≡ renewed_by (state_of self.old) bulletin }

@@ -9,6 +9,7 @@ use calls::call::{Call, Reply};
 use clocks::bank::Bank;
 
 impl<B: Bank> Joiner<B> {
+    /// Makes a call, and answers what it is replied.
     pub fn call<T: Copy>(&mut self, shelf: &mut Shelf<'_, T>, call: Call<T>) -> Reply<T>
         ensures called { Called (B.Bank.meaning self.old.bank) (desk_of self.old shelf.old.slots.now) call result (desk_of self.new shelf.new.slots.now) }
         ensures kept { self.new.bank ≡ self.old.bank }

@@ -1,100 +1,92 @@
 // The feeds' states.
-ghost use Rattle.std.specs.Prelude.{◌≡◌, ◌<◌, ◌≤◌, true, false, length, replicate, filter, MatchOption, slice_set};
+ghost use Rattle.std.specs.Prelude.{◌≡◌, ◌<◌, ◌≤◌, List, length, replicate, filter, Some, MatchOption, slice_set};
 ghost use Rattle.std.specs.List.{slice_get};
+ghost use Rattle.clocks.specs.Counts.{most_feeds};
+ghost use Rattle.order.specs.declared.state.FeedState.{FeedState};
 ghost use Rattle.order.specs.declared.state.FeedState.TheVariants.{Idle};
-ghost use Rattle.order.specs.Queue.{is_idle, IdleFeeds};
-ghost use Rattle.joiner.specs.Held.{feeds_of};
+ghost use Rattle.order.specs.Queue.{is_idle, idle_mask};
 
-use crate::rows::Feeds;
+use arrayvec::ArrayVec;
+use clocks::limits::MOST_FEEDS;
 use order::state::FeedState;
+use std::marker::Model;
+
+// A place for each feed that a joiner can have.
+pub(crate) const PLACES: usize = MOST_FEEDS as usize;
+
+// Each feed's state, in memory that is fixed, and a mask that has bit f set exactly where feed f is idle, as was asked for (docs/DECISIONS.md).
+#[derive(Drop)]
+pub(crate) struct Feeds {
+    states: ArrayVec<FeedState, PLACES>,
+    idle: u64,
+}
+
+// Clauses see the states.
+impl Model for Feeds {
+    ghost Value = { List FeedState };
+
+    ghost view = { λ f. f.states.items };
+
+    ghost invariant = { λ f. (length f.states.items ≤ most_feeds) × (f.idle ≡ idle_mask f.states.items) };
+}
 
 impl Feeds {
     // So many feeds, all idle.
     pub(crate) fn all_idle(count: usize) -> Feeds
-        requires { count ≤ 64 }
-        ensures { feeds_of result ≡ replicate count Idle }
+        requires { count ≤ most_feeds }
+        ensures { result ≡ replicate count Idle }
     {
-        let idle = if count < 64 {
+        let mut states = ArrayVec::from_array_in((), [FeedState::Idle; PLACES]);
+        states.truncate(count);
+        let idle = if count < PLACES {
             (1 << count) - 1
         } else {
             u64::MAX
         };
-        Feeds {
-            states: [FeedState::Idle; 64],
-            count,
-            idle,
-        }
+        Feeds { states, idle }
     }
 
-    pub(crate) fn count(&self) -> usize
-        ensures { result ≡ length (feeds_of self.now) }
+    pub(crate) fn len(&self) -> usize
+        ensures is { result ≡ length self.now }
+        ensures few { result ≤ most_feeds }
     {
-        self.count
+        self.states.len()
     }
 
     // A copy of a feed's state, if there is such a feed.
     pub(crate) fn state(&self, feed: u8) -> Option<FeedState>
-        ensures { result ≡ slice_get (feeds_of self.now) feed }
+        ensures { result ≡ slice_get self.now feed }
     {
-        if feed as usize >= self.count {
-            return None;
-        }
-        Some(self.states[feed as usize])
+        self.states.get(usize::from(feed)).copied()
     }
 
     // Writes a feed's state back.
     pub(crate) fn store(&mut self, feed: u8, state: FeedState)
-        requires { feed < length (feeds_of self.old) }
-        ensures { feeds_of self.new ≡ slice_set (feeds_of self.old) feed state }
+        requires { feed < length self.old }
+        ensures { self.new ≡ slice_set self.old feed state }
     {
-        *self = match state {
-            FeedState::Idle => self.freed(feed, state),
-            FeedState::Holding(_) | FeedState::Closing(_) | FeedState::Closed => self.busied(
-                feed, state,
-            ),
+        self.states[usize::from(feed)] = state;
+        let bit = 1 << feed;
+        self.idle = match state {
+            FeedState::Idle => self.idle | bit,
+            FeedState::Holding(_) | FeedState::Closing(_) | FeedState::Closed => self.idle & !bit,
         };
     }
 
-    // With a feed set idle.
-    fn freed(&self, feed: u8, state: FeedState) -> Feeds
-        requires inside { feed < length (feeds_of self.now) }
-        requires idle { is_idle state ≡ true }
-        ensures { feeds_of result ≡ slice_set (feeds_of self.now) feed state }
+    // How many feeds are idle.
+    pub(crate) fn idle_count(&self) -> u8
+        ensures { result ≡ length (filter is_idle self.now) }
     {
-        let mut states = self.states;
-        states[feed as usize] = state;
-        Feeds {
-            states,
-            count: self.count,
-            idle: self.idle | (1 << feed),
-        }
+        self.idle.count_ones() as u8
     }
 
-    // With a feed set to a state that is not idle.
-    fn busied(&self, feed: u8, state: FeedState) -> Feeds
-        requires inside { feed < length (feeds_of self.now) }
-        requires busy { is_idle state ≡ false }
-        ensures { feeds_of result ≡ slice_set (feeds_of self.now) feed state }
-    {
-        let mut states = self.states;
-        states[feed as usize] = state;
-        Feeds {
-            states,
-            count: self.count,
-            idle: self.idle & !(1 << feed),
-        }
-    }
-
-    // How many feeds are idle, and one of them, if any is.
-    pub(crate) fn idle(&self) -> Option<(u8, u8)>
-        ensures { MatchOption result (length (filter is_idle (feeds_of self.now)) ≡ 0) (λ p. (0 < p.0) × IdleFeeds (feeds_of self.now) p.0 p.1) }
+    // One of the idle feeds, if any is.
+    pub(crate) fn one_idle(&self) -> Option<u8>
+        ensures { MatchOption result (length (filter is_idle self.now) ≡ 0) (λ one. slice_get self.now one ≡ Some Idle) }
     {
         if self.idle == 0 {
             return None;
         }
-        Some((
-            self.idle.count_ones() as u8,
-            self.idle.trailing_zeros() as u8,
-        ))
+        Some(self.idle.trailing_zeros() as u8)
     }
 }

@@ -1,19 +1,22 @@
 // A joiner over a bank.
 ghost use Rattle.std.specs.Prelude.{length};
 ghost use Rattle.order.specs.Queue.{Queued, Counted};
-ghost use Rattle.joiner.specs.Held.{feeds_of, queue_of};
 
-use crate::rows::{Feeds, Queue};
+use crate::feeds::{Feeds, PLACES};
+use crate::queue::Queue;
 use leap::table::LeapTable;
 
+/// A joiner: its bank, its leap table, the feeds' states, the queue of feeds whose records wait, and the last accepted tick.
+// No model: of its fields contracts name one, the bank, and `state_of` sums up the others. A model with the bank in its value would name both in each clause.
+// `kept` stands in the contract of each call: it is short, and an inner struct without the bank would have each contract twice.
 #[derive(Drop)]
 pub struct Joiner<B> {
     pub(crate) bank: B,
     pub(crate) table: LeapTable,
     pub(crate) feeds: Feeds,
-    pub(crate) queue: Queue,
-    // the last accepted tick, whichever its feed; 0 before the first
+    pub(crate) queue: Queue<PLACES>,
+    // the last accepted tick, whichever its feed; 0 before the first, and no Option: no tick is less, so the test for one that falls has no other case
     pub(crate) last: u64,
-    ghost counted: { Counted (feeds_of feeds) (length (queue_of queue)) },
-    ghost queued: { Queued (feeds_of feeds) (queue_of queue) },
+    ghost counted: { Counted feeds (length queue) },
+    ghost queued: { Queued feeds queue },
 }

@@ -11,6 +11,5 @@ mod moves;
 pub mod put;
 pub mod questions;
 mod queue;
-mod rows;
 pub mod shelf;
 pub mod take;

@@ -1,59 +1,43 @@
 // Making a joiner.
-ghost use Rattle.std.specs.Prelude.{◌≡◌, ◌≤◌, length};
+ghost use Rattle.std.specs.Prelude.{◌≡◌, length};
 ghost use Rattle.refusals.specs.Said.{told};
 ghost use Rattle.leap.specs.Starting.{starting};
-ghost use Rattle.order.specs.Desk.{size_answer, admits, made};
+ghost use Rattle.order.specs.Desk.{size_answer, made};
 ghost use Rattle.order.specs.Promise.{KeepsOrder};
 ghost use Rattle.joiner.specs.Joiner.{state_of};
 
+use crate::feeds::Feeds;
 use crate::joiner::Joiner;
-use crate::rows::{Feeds, Queue};
+use crate::queue::Queue;
 use crate::shelf::Shelf;
 use clocks::bank::Bank;
 use clocks::limits::MOST_FEEDS;
 use leap::table::LeapTable;
 use refusals::refusal::Refusal;
 
-// The size check of a bank that tells so many feeds, on so many slots.
-fn judge_size(feeds: u8, slots: usize) -> Result<(), Refusal>
-    ensures { told result ≡ size_answer feeds slots }
-{
-    if feeds < 1 || feeds > MOST_FEEDS {
-        return Err(Refusal::FeedCount);
-    }
-    if slots < feeds as usize {
-        return Err(Refusal::ShortShelf);
-    }
-    Ok(())
-}
-
-// How many feeds a joiner is made with.
-fn admit(feeds: u8, slots: usize) -> usize
-    ensures is { result ≡ admits feeds slots }
-    ensures few { result ≤ 64 }
-{
-    match judge_size(feeds, slots) {
-        Ok(()) => feeds as usize,
-        Err(_) => 0,
-    }
-}
-
 impl<B: Bank> Joiner<B> {
-    // Whether a joiner over this bank and on this shelf would have feeds.
+    /// Whether a joiner over this bank and on this shelf would have feeds.
     pub fn check_size<T: Copy>(bank: &B, shelf: &Shelf<'_, T>) -> Result<(), Refusal>
         ensures { told result ≡ size_answer (B.Bank.meaning bank.now).feeds (length shelf.now.slots.now) }
     {
-        judge_size(bank.feeds(), shelf.len())
+        let feeds = bank.feeds();
+        if !(1..=MOST_FEEDS).contains(&feeds) {
+            return Err(Refusal::FeedCount);
+        }
+        if shelf.len() < usize::from(feeds) {
+            return Err(Refusal::ShortShelf);
+        }
+        Ok(())
     }
 
-    // A joiner with the starting table and every feed idle. Where the size check refuses it has no feeds, else all the bank's.
-    // What becomes of its order, whatever is called, is promised here.
+    /// A joiner with the starting table and every feed idle. Where the size check refuses it has no feeds, else all the bank's.
+    /// What becomes of its order, whatever is called, is promised here.
     pub fn new<T: Copy>(bank: B, shelf: &Shelf<'_, T>) -> Joiner<B>
         ensures fresh { state_of result ≡ (made (B.Bank.meaning bank) starting shelf.now.slots.now).joiner }
         ensures kept { result.bank ≡ bank }
         ensures promise { KeepsOrder (B.Bank.meaning bank) starting shelf.now.slots.now }
     {
-        let count = admit(bank.feeds(), shelf.len());
+        let count = Self::check_size(&bank, shelf).map_or(0, |()| usize::from(bank.feeds()));
         Joiner {
             bank,
             table: LeapTable::starting(),

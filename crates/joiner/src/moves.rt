@@ -1,13 +1,12 @@
 // A feed's state, matched together with the call.
 ghost use Rattle.std.specs.Prelude.{◌≡◌};
 ghost use Rattle.refusals.specs.Said.{told};
-ghost use Rattle.order.specs.Desk.{held};
 ghost use Rattle.joiner.specs.Moves.{changed, change_answer};
 
 use order::state::FeedState;
 use refusals::refusal::Refusal;
 
-// A call as one feed sees it.
+// A call as one feed sees it. An enum and no closures: state and call are matched together, as was asked for (docs/DECISIONS.md).
 #[derive(Clone, Copy)]
 pub(crate) enum Move {
     // a record of this tick, or why its stamp has none
@@ -22,8 +21,7 @@ pub(crate) fn change(state: &mut FeedState, by: Move) -> Result<(), Refusal>
     ensures answer { told result ≡ change_answer state.old by }
 {
     match (&mut *state, by) {
-        (FeedState::Idle, Move::Put(Ok(tick))) => *state = FeedState::Holding(tick),
-        (FeedState::Idle, Move::Put(Err(refusal))) => return Err(refusal),
+        (FeedState::Idle, Move::Put(reading)) => *state = FeedState::Holding(reading?),
         (FeedState::Holding(_), Move::Put(_)) => return Err(Refusal::FeedHolding),
         (FeedState::Idle, Move::Close) => *state = FeedState::Closed,
         (FeedState::Holding(tick), Move::Close) => *state = FeedState::Closing(*tick),
@@ -35,14 +33,4 @@ pub(crate) fn change(state: &mut FeedState, by: Move) -> Result<(), Refusal>
         (FeedState::Idle | FeedState::Closed, Move::Take) => {}
     }
     Ok(())
-}
-
-// The tick of the record that waits in a feed; 0 where none does.
-pub(crate) fn held_tick(state: FeedState) -> u64
-    ensures { result ≡ held state }
-{
-    match state {
-        FeedState::Holding(tick) | FeedState::Closing(tick) => tick,
-        FeedState::Idle | FeedState::Closed => 0,
-    }
 }

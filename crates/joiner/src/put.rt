@@ -6,7 +6,7 @@ ghost use Rattle.order.specs.Desk.{put_at, put_answer, after_put};
 ghost use Rattle.joiner.specs.Joiner.{state_of, desk_of};
 
 use crate::joiner::Joiner;
-use crate::moves::{Move, change, held_tick};
+use crate::moves::{Move, change};
 use crate::shelf::Shelf;
 use clocks::bank::Bank;
 use clocks::limits::TOLD_LIMIT;
@@ -27,7 +27,7 @@ impl<B: Bank> Joiner<B> {
         Ok(tick)
     }
 
-    // Accepts a record of a feed, its stamp and body, and answers its tick.
+    /// Accepts a record of a feed, its stamp and body, and answers its tick.
     pub fn put<T: Copy>(
         &mut self,
         shelf: &mut Shelf<'_, T>,
@@ -40,18 +40,17 @@ impl<B: Bank> Joiner<B> {
         ensures kept { self.new.bank ≡ self.old.bank }
         ensures lent { shelf.new.slots.ghost_name ≡ shelf.old.slots.ghost_name }
     {
-        if shelf.slots.len() < self.feeds.count() {
+        if shelf.slots.len() < self.feeds.len() {
             return Err(Refusal::ShortShelf);
         }
-        let Some(mut state) = self.feeds.state(feed) else {
-            return Err(Refusal::NoFeed);
-        };
-        change(&mut state, Move::Put(self.tick_of(feed, stamp)))?;
-        let tick = held_tick(state);
+        let mut state = self.feeds.state(feed).ok_or(Refusal::NoFeed)?;
+        let reading = self.tick_of(feed, stamp);
+        change(&mut state, Move::Put(reading))?;
+        let tick = reading?;
         self.feeds.store(feed, state);
         self.queue.push(feed);
         self.last = tick;
-        shelf.slots[feed as usize] = body;
+        shelf.slots[usize::from(feed)] = body;
         Ok(tick)
     }
 }

@@ -1,47 +1,66 @@
 // The queue of feeds whose records wait.
-ghost use Rattle.std.specs.Prelude.{◌≡◌, ◌<◌, [], ◌∷◌, ◌++◌, length};
+ghost use Rattle.std.specs.Prelude.{◌≡◌, ℕ, ◌+◌, ◌^◌, ◌<◌, ◌≤◌, List, [], ◌∷◌, ◌++◌, length};
+ghost use Rattle.std.specs.List.{slice_get};
 ghost use Rattle.order.specs.Desk.{rest};
-ghost use Rattle.joiner.specs.Held.{queue_of, first_of};
+ghost use Rattle.joiner.specs.Ring.{ring_from};
 
-use crate::rows::Queue;
+use std::marker::Model;
 
-impl Queue {
-    pub(crate) fn new() -> Queue
-        ensures { queue_of result ≡ [] }
+// At most N feeds, in a ring. It has a fixed place for each, since the joiner allocates nothing: a deque of the library is on the heap.
+#[derive(Drop)]
+pub(crate) struct Queue<const N: usize> {
+    ring: [u8; N],
+    oldest: usize,
+    len: usize,
+}
+
+// Clauses see the feeds, the one that has waited longest first.
+impl<const N: usize> Model for Queue<N> {
+    ghost Value = { List ℕ };
+
+    ghost view = { λ q. ring_from N q.ring q.oldest q.len };
+
+    ghost invariant = { λ q. (q.oldest < N) × (q.len ≤ N) × (N + N ≤ 2 ^ 64) };
+}
+
+impl<const N: usize> Queue<N> {
+    pub(crate) fn new() -> Queue<N>
+        requires some { 0 < N }
+        requires small { N + N ≤ 2 ^ 64 }
+        ensures { result ≡ [] }
     {
         Queue {
-            ring: [0; 64],
-            head: 0,
+            ring: [0; N],
+            oldest: 0,
             len: 0,
         }
     }
 
     // The feed that has waited longest.
     pub(crate) fn first(&self) -> Option<u8>
-        ensures { result ≡ first_of (queue_of self.now) }
+        ensures { result ≡ slice_get self.now 0 }
     {
         if self.len == 0 {
             return None;
         }
-        Some(self.ring[self.head])
+        Some(self.ring[self.oldest])
     }
 
     // One feed more, at the end.
     pub(crate) fn push(&mut self, feed: u8)
-        requires { length (queue_of self.old) < 64 }
-        ensures { queue_of self.new ≡ queue_of self.old ++ feed ∷ [] }
+        requires { length self.old < N }
+        ensures { self.new ≡ self.old ++ feed ∷ [] }
     {
-        let place = (self.head + self.len) % 64;
-        self.ring[place] = feed;
+        self.ring[(self.oldest + self.len) % N] = feed;
         self.len += 1;
     }
 
     // The first leaves.
     pub(crate) fn pop(&mut self)
-        ensures { queue_of self.new ≡ rest (queue_of self.old) }
+        ensures { self.new ≡ rest self.old }
     {
         if self.len > 0 {
-            self.head = (self.head + 1) % 64;
+            self.oldest = (self.oldest + 1) % N;
             self.len -= 1;
         }
     }

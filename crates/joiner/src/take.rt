@@ -5,7 +5,7 @@ ghost use Rattle.order.specs.Desk.{idle_count, waits_none, TakeAnswer, after_tak
 ghost use Rattle.joiner.specs.Joiner.{state_of};
 
 use crate::joiner::Joiner;
-use crate::moves::{Move, change, held_tick};
+use crate::moves::{Move, change};
 use crate::shelf::Shelf;
 use calls::call::Handed;
 use clocks::bank::Bank;
@@ -13,16 +13,19 @@ use refusals::refusal::Refusal;
 
 impl<B: Bank> Joiner<B> {
     // Why there is no record to take.
-    fn none_waits<T: Copy>(&self, _shelf: &Shelf<'_, T>) -> Refusal
+    fn none_waits<T: Copy>(&self) -> Refusal
         ensures { waits_none {T = T} (state_of self.now) (idle_count (state_of self.now)) (Err (said result)) }
     {
-        match self.feeds.idle() {
-            Some((idle, feed)) => Refusal::NoneWaits { idle, feed },
+        match self.feeds.one_idle() {
+            Some(feed) => Refusal::NoneWaits {
+                idle: self.feeds.idle_count(),
+                feed,
+            },
             None => Refusal::AllClosed,
         }
     }
 
-    // Hands out the feed, tick and body of the record that has waited longest. The shelf is lent for writing and left as it is.
+    /// Hands out the feed, tick and body of the record that has waited longest. The shelf is lent for writing and left as it is.
     pub fn take<T: Copy>(&mut self, shelf: &mut Shelf<'_, T>) -> Result<Handed<T>, Refusal>
         ensures answer { TakeAnswer (state_of self.old) shelf.old.slots.now (told result) }
         ensures state { state_of self.new ≡ after_take (state_of self.old) (told result) }
@@ -30,20 +33,19 @@ impl<B: Bank> Joiner<B> {
         ensures kept { self.new.bank ≡ self.old.bank }
         ensures lent { shelf.new.slots.ghost_name ≡ shelf.old.slots.ghost_name }
     {
-        if shelf.slots.len() < self.feeds.count() {
+        if shelf.slots.len() < self.feeds.len() {
             return Err(Refusal::ShortShelf);
         }
+        // The look at the head is taken apart here, as was asked for (docs/DECISIONS.md).
         let Some(feed) = self.queue.first() else {
-            return Err(self.none_waits(shelf));
+            return Err(self.none_waits::<T>());
         };
-        let Some(mut state) = self.feeds.state(feed) else {
-            return Err(Refusal::NoFeed);
-        };
-        let tick = held_tick(state);
-        let _ = change(&mut state, Move::Take);
+        let mut state = self.feeds.state(feed).ok_or(Refusal::NoFeed)?;
+        let tick = state.waiting_tick().ok_or(Refusal::NoFeed)?;
+        change(&mut state, Move::Take)?;
         self.feeds.store(feed, state);
         self.queue.pop();
-        let body = shelf.slots[feed as usize];
+        let body = shelf.slots[usize::from(feed)];
         Ok(Handed { feed, tick, body })
     }
 }

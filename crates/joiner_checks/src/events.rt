@@ -4,8 +4,6 @@ use banks::scale::Scale;
 use calls::call::Handed;
 use calls::event::{Action, LicenceEvent};
 use clocks::bank::Bank;
-use clocks::form::Form;
-use clocks::rung::Rung;
 use forms::posix::Posix;
 use joiner::joiner::Joiner;
 use joiner::shelf::Shelf;
@@ -25,7 +23,37 @@ const CLOCK: Clock = Scale {
     rung: Tai,
 };
 
+const CLOCKS: Clocks = Beside {
+    left: CLOCK,
+    right: CLOCK,
+};
+
 const SECOND: u64 = 1_000_000_000;
+
+// A joiner, and its shelf.
+#[derive(Drop)]
+struct Desk<'a, B> {
+    joiner: Joiner<B>,
+    shelf: Shelf<'a, LicenceEvent>,
+}
+
+impl<'a, B: Bank> Desk<'a, B> {
+    fn new(bank: B, slots: &'a mut [LicenceEvent]) -> Desk<'a, B> {
+        let shelf = Shelf::new(slots);
+        Desk {
+            joiner: Joiner::new(bank, &shelf),
+            shelf,
+        }
+    }
+
+    fn put(&mut self, feed: u8, stamp: (u64, u64), seat: u32) -> Result<u64, Refusal> {
+        self.joiner.put(&mut self.shelf, feed, stamp, event(seat))
+    }
+
+    fn take(&mut self) -> Result<Handed<LicenceEvent>, Refusal> {
+        self.joiner.take(&mut self.shelf)
+    }
+}
 
 fn event(seat: u32) -> LicenceEvent {
     LicenceEvent {
@@ -35,10 +63,12 @@ fn event(seat: u32) -> LicenceEvent {
     }
 }
 
-fn clocks() -> Clocks {
-    Beside {
-        left: CLOCK,
-        right: CLOCK,
+// A record as take gives it.
+fn handed(feed: u8, tick: u64, seat: u32) -> Handed<LicenceEvent> {
+    Handed {
+        feed,
+        tick,
+        body: event(seat),
     }
 }
 
@@ -47,11 +77,11 @@ fn the_size_check_gives_2_before_3(rt: HostRuntime) {
     let mut one = [event(0); 1];
     let shelf = Shelf::new(&mut one);
     assert_eq!(rt;
-        Joiner::check_size(&clocks(), &shelf),
+        Joiner::check_size(&CLOCKS, &shelf),
         Err(Refusal::ShortShelf)
     );
     assert_eq!(rt; Joiner::check_size(&CLOCK, &shelf), Ok(()));
-    let joiner = Joiner::new(clocks(), &shelf);
+    let joiner = Joiner::new(CLOCKS, &shelf);
     assert_eq!(rt; joiner.feeds(), 0);
 }
 
@@ -59,129 +89,79 @@ fn the_size_check_gives_2_before_3(rt: HostRuntime) {
 #[test]
 fn a_joiner_without_feeds_has_4_and_18(rt: HostRuntime) {
     let mut none: [LicenceEvent; 0] = [];
-    let mut shelf = Shelf::new(&mut none);
-    let mut joiner = Joiner::new(clocks(), &shelf);
-    assert_eq!(rt;
-        joiner.put(&mut shelf, 0, (1, 0), event(1)),
-        Err(Refusal::NoFeed)
-    );
-    assert_eq!(rt; joiner.close(0), Err(Refusal::NoFeed));
-    assert_eq!(rt; joiner.take(&mut shelf), Err(Refusal::AllClosed));
+    let mut desk = Desk::new(CLOCKS, &mut none);
+    assert_eq!(rt; desk.put(0, (1, 0), 1), Err(Refusal::NoFeed));
+    assert_eq!(rt; desk.joiner.close(0), Err(Refusal::NoFeed));
+    assert_eq!(rt; desk.take(), Err(Refusal::AllClosed));
 }
 
 #[test]
 fn records_leave_in_the_order_of_their_puts(rt: HostRuntime) {
     let mut slots = [event(0); 2];
-    let mut shelf = Shelf::new(&mut slots);
-    let mut joiner = Joiner::new(clocks(), &shelf);
-    assert_eq!(rt; joiner.put(&mut shelf, 1, (5, 0), event(1)), Ok(5 * SECOND));
-    assert_eq!(rt; joiner.put(&mut shelf, 0, (5, 0), event(2)), Ok(5 * SECOND));
-    assert_eq!(rt;
-        joiner.take(&mut shelf),
-        Ok(Handed {
-            feed: 1,
-            tick: 5 * SECOND,
-            body: event(1),
-        })
-    );
-    assert_eq!(rt;
-        joiner.put(&mut shelf, 1, (4, 999_999_999), event(3)),
-        Err(Refusal::Behind)
-    );
-    assert_eq!(rt; joiner.put(&mut shelf, 1, (6, 0), event(4)), Ok(6 * SECOND));
-    assert_eq!(rt; joiner.last_tick(), 6 * SECOND);
-    assert_eq!(rt;
-        joiner.take(&mut shelf),
-        Ok(Handed {
-            feed: 0,
-            tick: 5 * SECOND,
-            body: event(2),
-        })
-    );
-    assert_eq!(rt;
-        joiner.take(&mut shelf),
-        Ok(Handed {
-            feed: 1,
-            tick: 6 * SECOND,
-            body: event(4),
-        })
-    );
+    let mut desk = Desk::new(CLOCKS, &mut slots);
+    assert_eq!(rt; desk.put(1, (5, 0), 1), Ok(5 * SECOND));
+    assert_eq!(rt; desk.put(0, (5, 0), 2), Ok(5 * SECOND));
+    assert_eq!(rt; desk.take(), Ok(handed(1, 5 * SECOND, 1)));
+    assert_eq!(rt; desk.put(1, (4, 999_999_999), 3), Err(Refusal::Behind));
+    assert_eq!(rt; desk.put(1, (6, 0), 4), Ok(6 * SECOND));
+    assert_eq!(rt; desk.joiner.last_tick(), 6 * SECOND);
+    assert_eq!(rt; desk.take(), Ok(handed(0, 5 * SECOND, 2)));
+    assert_eq!(rt; desk.take(), Ok(handed(1, 6 * SECOND, 4)));
 }
 
 #[test]
 fn feeds_go_through_their_states(rt: HostRuntime) {
     let mut slots = [event(0); 2];
-    let mut shelf = Shelf::new(&mut slots);
-    let mut joiner = Joiner::new(clocks(), &shelf);
-    assert_eq!(rt; joiner.feed_state(0), Some(FeedState::Idle));
-    assert_eq!(rt; joiner.put(&mut shelf, 0, (5, 0), event(1)), Ok(5 * SECOND));
-    assert_eq!(rt; joiner.feed_state(0), Some(FeedState::Holding(5 * SECOND)));
+    let mut desk = Desk::new(CLOCKS, &mut slots);
+    assert_eq!(rt; desk.joiner.feed_state(0), Some(FeedState::Idle));
+    assert_eq!(rt; desk.put(0, (5, 0), 1), Ok(5 * SECOND));
     assert_eq!(rt;
-        joiner.put(&mut shelf, 0, (5, 0), event(1)),
-        Err(Refusal::FeedHolding)
+        desk.joiner.feed_state(0),
+        Some(FeedState::Holding(5 * SECOND))
     );
-    assert_eq!(rt; joiner.close(0), Ok(()));
-    assert_eq!(rt; joiner.feed_state(0), Some(FeedState::Closing(5 * SECOND)));
+    assert_eq!(rt; desk.put(0, (5, 0), 1), Err(Refusal::FeedHolding));
+    assert_eq!(rt; desk.joiner.close(0), Ok(()));
     assert_eq!(rt;
-        joiner.put(&mut shelf, 0, (5, 0), event(1)),
-        Err(Refusal::FeedClosed)
+        desk.joiner.feed_state(0),
+        Some(FeedState::Closing(5 * SECOND))
     );
-    assert_eq!(rt; joiner.close(0), Err(Refusal::FeedClosed));
-    assert_eq!(rt;
-        joiner.take(&mut shelf),
-        Ok(Handed {
-            feed: 0,
-            tick: 5 * SECOND,
-            body: event(1),
-        })
-    );
-    assert_eq!(rt; joiner.feed_state(0), Some(FeedState::Closed));
-    assert_eq!(rt; joiner.feed_state(2), None);
+    assert_eq!(rt; desk.put(0, (5, 0), 1), Err(Refusal::FeedClosed));
+    assert_eq!(rt; desk.joiner.close(0), Err(Refusal::FeedClosed));
+    assert_eq!(rt; desk.take(), Ok(handed(0, 5 * SECOND, 1)));
+    assert_eq!(rt; desk.joiner.feed_state(0), Some(FeedState::Closed));
+    assert_eq!(rt; desk.joiner.feed_state(2), None);
 }
 
 #[test]
 fn idle_feeds_are_counted(rt: HostRuntime) {
     let mut slots = [event(0); 2];
-    let mut shelf = Shelf::new(&mut slots);
-    let mut joiner = Joiner::new(clocks(), &shelf);
-    assert_eq!(rt; joiner.close(0), Ok(()));
-    assert_eq!(rt;
-        joiner.take(&mut shelf),
-        Err(Refusal::NoneWaits { idle: 1, feed: 1 })
-    );
-    assert_eq!(rt; joiner.close(1), Ok(()));
-    assert_eq!(rt; joiner.take(&mut shelf), Err(Refusal::AllClosed));
+    let mut desk = Desk::new(CLOCKS, &mut slots);
+    assert_eq!(rt; desk.joiner.close(0), Ok(()));
+    assert_eq!(rt; desk.take(), Err(Refusal::NoneWaits { idle: 1, feed: 1 }));
+    assert_eq!(rt; desk.joiner.close(1), Ok(()));
+    assert_eq!(rt; desk.take(), Err(Refusal::AllClosed));
 }
 
 // Other slots that are too few are refused, and nothing is lost.
 #[test]
 fn a_short_shelf_is_refused(rt: HostRuntime) {
     let mut slots = [event(0); 2];
-    let mut shelf = Shelf::new(&mut slots);
-    let mut joiner = Joiner::new(clocks(), &shelf);
+    let mut desk = Desk::new(CLOCKS, &mut slots);
     let mut few = [event(0); 1];
     let mut short = Shelf::new(&mut few);
-    assert_eq!(rt; joiner.put(&mut shelf, 0, (5, 0), event(1)), Ok(5 * SECOND));
+    assert_eq!(rt; desk.put(0, (5, 0), 1), Ok(5 * SECOND));
     assert_eq!(rt;
-        joiner.put(&mut short, 9, (5, 0), event(1)),
+        desk.joiner.put(&mut short, 9, (5, 0), event(1)),
         Err(Refusal::ShortShelf)
     );
-    assert_eq!(rt; joiner.take(&mut short), Err(Refusal::ShortShelf));
-    assert_eq!(rt;
-        joiner.take(&mut shelf),
-        Ok(Handed {
-            feed: 0,
-            tick: 5 * SECOND,
-            body: event(1),
-        })
-    );
+    assert_eq!(rt; desk.joiner.take(&mut short), Err(Refusal::ShortShelf));
+    assert_eq!(rt; desk.take(), Ok(handed(0, 5 * SECOND, 1)));
 }
 
 // A clock of steps of 10^13 ticks loses too much to be put to.
 #[test]
 fn a_loss_of_10_to_the_12th_is_refused(rt: HostRuntime) {
     let mut slots = [event(0); 1];
-    let mut shelf = Shelf::new(&mut slots);
     let bank = Scale {
         form: Posix,
         rung: Pile {
@@ -189,37 +169,24 @@ fn a_loss_of_10_to_the_12th_is_refused(rt: HostRuntime) {
             lower: Tai,
         },
     };
-    let mut joiner = Joiner::new(bank, &shelf);
-    assert_eq!(rt;
-        joiner.put(&mut shelf, 0, (0, 0), event(1)),
-        Err(Refusal::LossTooLarge)
-    );
-    assert_eq!(rt; joiner.last_tick(), 0);
+    let mut desk = Desk::new(bank, &mut slots);
+    assert_eq!(rt; desk.put(0, (0, 0), 1), Err(Refusal::LossTooLarge));
+    assert_eq!(rt; desk.joiner.last_tick(), 0);
 }
 
 #[test]
 fn bulletins_renew_the_table_under_it(rt: HostRuntime) {
     let mut slots = [event(0); 2];
-    let shelf = Shelf::new(&mut slots);
-    let mut joiner = Joiner::new(clocks(), &shelf);
-    assert_eq!(rt;
-        joiner.bulletin(Bulletin {
-            change: 1,
-            day: 20_089,
-            expiry: 20_270,
-        }),
-        Ok(())
-    );
-    assert_eq!(rt; joiner.expiry(), 20_270);
-    assert_eq!(rt;
-        joiner.bulletin(Bulletin {
-            change: 1,
-            day: 20_089,
-            expiry: 20_270,
-        }),
-        Err(Refusal::BadDay)
-    );
-    assert_eq!(rt; joiner.expiry(), 20_270);
-    assert_eq!(rt; joiner.show(1, 5 * SECOND + 7), Ok((5, 7)));
-    assert_eq!(rt; joiner.show(2, 5), Err(Refusal::NoFeed));
+    let mut desk = Desk::new(CLOCKS, &mut slots);
+    let news = Bulletin {
+        change: 1,
+        day: 20_089,
+        expiry: 20_270,
+    };
+    assert_eq!(rt; desk.joiner.bulletin(news), Ok(()));
+    assert_eq!(rt; desk.joiner.expiry(), 20_270);
+    assert_eq!(rt; desk.joiner.bulletin(news), Err(Refusal::BadDay));
+    assert_eq!(rt; desk.joiner.expiry(), 20_270);
+    assert_eq!(rt; desk.joiner.show(1, 5 * SECOND + 7), Ok((5, 7)));
+    assert_eq!(rt; desk.joiner.show(2, 5), Err(Refusal::NoFeed));
 }

@@ -7,10 +7,9 @@ use joiner::joiner::Joiner;
 use joiner::shelf::Shelf;
 use refusals::refusal::Refusal;
 use rungs::tai::Tai;
-use std::test::Fail;
 
 #[test]
-fn places_of_log_lines_are_kept_in_order(rt: HostRuntime) -> Result<(), Fail> {
+fn places_of_log_lines_are_kept_in_order(rt: HostRuntime) {
     let first = LinePlace {
         start: 0,
         length: 80,
@@ -52,18 +51,12 @@ fn places_of_log_lines_are_kept_in_order(rt: HostRuntime) -> Result<(), Fail> {
         joiner.put(&mut shelf, 0, (10, 1), second),
         Ok(10_000_000_001)
     );
-    match joiner.call(&mut shelf, Call::Take) {
-        Reply::Take(Ok(handed)) => {
-            assert_eq!(rt;
-                handed,
-                Handed {
-                    feed: 0,
-                    tick: 10_000_000_001,
-                    body: second,
-                }
-            );
-            Ok(())
-        },
-        _ => Err(Fail::new("no record")),
-    }
+    assert_eq!(rt;
+        joiner.call(&mut shelf, Call::Take),
+        Reply::Take(Ok(Handed {
+            feed: 0,
+            tick: 10_000_000_001,
+            body: second,
+        }))
+    );
 }

@@ -1,10 +1,13 @@
 -- what every run keeps: the records handed out and then those of the queue are the accepted ones, in order
-use Rattle.std.proofs.Common.{◌≡◌, ℕ, zero, suc, ◌<◌, ◌≤◌, cond, eqb, ◌⊎◌, List, [], ◌∷◌, ◌++◌, map, length, get_or, set, Some, Ok, Err, filter, Option, Result, sym, refl, ap, ◌∙◌, subst, inl, inr, append_assoc, append-nil, arith, length-set, get_or-set_other, get_or-set_same}
+use Rattle.std.proofs.Common.{◌≡◌, ℕ, zero, suc, ◌-◌, ◌<◌, ◌≤◌, cond, eqb, ◌⊎◌, List, [], ◌∷◌, ◌++◌, map, length, get_or, set, Some, Ok, Err, filter, Option, Result, sym, refl, ap, ◌∙◌, subst, inl, inr, append_assoc, append-nil, arith, length-set, get_or-set_other, get_or-set_same}
 use lib.Seq.{append_snoc}
-use Rattle.std.specs.List.{AllByRecursion, slice_get}
+use Rattle.std.specs.List.{All, slice_get}
+use Rattle.std.specs.List.Sorted.{IsNonDecreasingBy}
 use Rattle.std.proofs.lemmas.Bool.{eq-eqb, ne_eqb, cases_eq}
-use Rattle.std.proofs.lemmas.List.Elements.{filter-append}
-use Rattle.std.proofs.ByRecursion.{All-push, All-weaker}
+use Rattle.std.proofs.lemmas.Grind.{flat_map-append}
+use Rattle.std.proofs.lemmas.List.{map-append}
+use Rattle.std.proofs.lemmas.List.Sorted.{IsNonDecreasingBy-push}
+use Rattle.std.proofs.lemmas.List.Elements.{filter-append, All-push, All-weaker}
 use Rattle.refusals.specs.Said.{Said}
 use Rattle.order.specs.declared.state.FeedState.{FeedState}
 use Rattle.order.specs.declared.state.FeedState.TheVariants.{Idle, Holding, Closing, Closed}
@@ -16,7 +19,7 @@ use Rattle.clocks.specs.Forms.{Stamp}
 use Rattle.clocks.specs.Banks.{BankMeaning, LawfulBank}
 use Rattle.order.specs.Desk.{State, Desk, Event, Put, Take, Close, Renew, Elsewhere, feed_state, put_answer, after_put, close_plan, closed_as, renewed_by, TakeAnswer, held, released, rest, after_take, Step}
 use Rattle.order.specs.History.{Record, handed, accepted_by, given_by, accepted, given, waiting, waiting_in, slot, Waits}
-use Rattle.order.proofs.Rows.{head_same, tail_same, cons≢nil, nth_set_same, nth_set_other, Climbs, climbs_push, map-++}
+use Rattle.order.proofs.Rows.{head_same, tail_same, cons≢nil, nth_set_same, nth_set_other}
 use Rattle.order.proofs.Steps.{Puts, put_ok, close_ok, close_same, after_sound, after_keeps, Takes, take_ok}
 
 abbrev pub pair : {T : Type 0} → Record T → ℕ × T
@@ -42,28 +45,20 @@ pub record Kept {T : Type 0} (m : BankMeaning) (vs : List (Event T)) (d : Desk T
   pub gave : given vs ≡ map handed gone
   pub queue : d.joiner.queue ≡ map feed_of left
   pub wait : (f : ℕ) → map pair (of_feed f left) ≡ waiting d f
-  pub rise : Climbs tick_of (gone ++ left)
-  pub past : AllByRecursion (λ r. tick_of r ≤ d.joiner.last) (gone ++ left)
-  pub good : AllByRecursion (Good m d.joiner) (gone ++ left)
+  pub rise : IsNonDecreasingBy tick_of (gone ++ left)
+  pub past : All (λ r. tick_of r ≤ d.joiner.last) (gone ++ left)
+  pub good : All (Good m d.joiner) (gone ++ left)
   pub sound : Sound d.joiner.table
   pub room : length d.joiner.feeds ≤ length d.slots
 
 -- ---- one more call
 
 module _ {T : Type 0} where
-  pub accepted-++ : (vs ws : List (Event T)) → accepted (vs ++ ws) ≡ accepted vs ++ accepted ws
-  accepted-++ [] ws = refl
-  accepted-++ (v ∷ vs) ws = ap (λ z. accepted_by v ++ z) (accepted-++ vs ws) ∙ sym (append_assoc (accepted_by v) (accepted vs) (accepted ws))
-
-  pub given-++ : (vs ws : List (Event T)) → given (vs ++ ws) ≡ given vs ++ given ws
-  given-++ [] ws = refl
-  given-++ (v ∷ vs) ws = ap (λ z. given_by v ++ z) (given-++ vs ws) ∙ sym (append_assoc (given_by v) (given vs) (given ws))
-
   accepted_push : (vs : List (Event T)) (v : Event T) → accepted (vs ++ v ∷ []) ≡ accepted vs ++ accepted_by v
-  accepted_push vs v = accepted-++ vs (v ∷ []) ∙ ap (λ z. accepted vs ++ z) (append-nil (accepted_by v))
+  accepted_push vs v = flat_map-append accepted_by vs (v ∷ []) ∙ ap (λ z. accepted vs ++ z) (append-nil (accepted_by v))
 
   given_push : (vs : List (Event T)) (v : Event T) → given (vs ++ v ∷ []) ≡ given vs ++ given_by v
-  given_push vs v = given-++ vs (v ∷ []) ∙ ap (λ z. given vs ++ z) (append-nil (given_by v))
+  given_push vs v = flat_map-append given_by vs (v ∷ []) ∙ ap (λ z. given vs ++ z) (append-nil (given_by v))
 
   accepted_none : (vs : List (Event T)) (v : Event T) → accepted_by v ≡ [] → accepted (vs ++ v ∷ []) ≡ accepted vs
   accepted_none vs v e = accepted_push vs v ∙ ap (λ z. accepted vs ++ z) e ∙ append-nil (accepted vs)
@@ -119,7 +114,7 @@ module _ {T : Type 0} (m : BankMeaning) (vs : List (Event T)) (d : Desk T) (k : 
 
     put_wait : (h : ℕ) → map pair (of_feed h (k.left ++ new ∷ [])) ≡ waiting (after_put d f x (Ok t)) h
     put_wait h =
-        ap (map pair) (filter-append (λ r. eqb r.feed h) k.left (new ∷ [])) ∙ map-++ pair (of_feed h k.left) (of_feed h (new ∷ []))
+        ap (map pair) (filter-append (λ r. eqb r.feed h) k.left (new ∷ [])) ∙ map-append pair (of_feed h k.left) (of_feed h (new ∷ []))
         ∙ ap (λ z. z ++ map pair (of_feed h (new ∷ []))) (k.wait h) ∙ go (cases_eq h f)
       where
         go : (h ≡ f) ⊎ (h ≡ f → ⊥) → waiting d h ++ map pair (of_feed h (new ∷ [])) ≡ waiting (after_put d f x (Ok t)) h
@@ -128,13 +123,13 @@ module _ {T : Type 0} (m : BankMeaning) (vs : List (Event T)) (d : Desk T) (k : 
             ap (λ b. waiting d h ++ map pair (cond b (new ∷ []) [])) (ne_eqb f h (λ q. ne (sym q))) ∙ append-nil (waiting d h)
             ∙ sym (waiting_other d put_state (set d.slots f x) f h (Holding t) x ne refl refl)
 
-    put_all : (P : Record T → Type 0) → AllByRecursion P (k.gone ++ k.left) → P new → AllByRecursion P (k.gone ++ (k.left ++ new ∷ []))
-    put_all P h n = subst (AllByRecursion P) (append_assoc k.gone k.left (new ∷ [])) (All-push P (k.gone ++ k.left) new h n)
+    put_all : (P : Record T → Type 0) → All P (k.gone ++ k.left) → P new → All P (k.gone ++ (k.left ++ new ∷ []))
+    put_all P h n = subst (All P) (append_assoc k.gone k.left (new ∷ [])) (All-push P (k.gone ++ k.left) new h n)
 
-    put_good : AllByRecursion (Good m put_state) (k.gone ++ k.left)
+    put_good : All (Good m put_state) (k.gone ++ k.left)
     put_good = All-weaker (Good m d.joiner) (Good m put_state) (λ r h. (let i = h.0 in omega (arith, length-set d.joiner.feeds f (Holding t)), h.1, h.2)) (k.gone ++ k.left) k.good
 
-    put_past : AllByRecursion (λ r. tick_of r ≤ t) (k.gone ++ k.left)
+    put_past : All (λ r. tick_of r ≤ t) (k.gone ++ k.left)
     put_past = All-weaker (λ r. tick_of r ≤ d.joiner.last) (λ r. tick_of r ≤ t) (λ r h. let h' : tick_of r ≤ d.joiner.last = h in let l = ok.later in omega arith) (k.gone ++ k.left) k.past
 
     put_kept : Kept m (vs ++ Put f p x (Ok t) ∷ []) (after_put d f x (Ok t))
@@ -143,9 +138,9 @@ module _ {T : Type 0} (m : BankMeaning) (vs : List (Event T)) (d : Desk T) (k : 
       left = k.left ++ new ∷ [];
       split = accepted_push vs (Put f p x (Ok t)) ∙ ap (λ z. z ++ new ∷ []) k.split ∙ append_assoc k.gone k.left (new ∷ []);
       gave = given_none vs (Put f p x (Ok t)) refl ∙ k.gave;
-      queue = ap (λ z. z ++ f ∷ []) k.queue ∙ sym (map-++ feed_of k.left (new ∷ []));
+      queue = ap (λ z. z ++ f ∷ []) k.queue ∙ sym (map-append feed_of k.left (new ∷ []));
       wait = put_wait;
-      rise = subst (Climbs tick_of) (append_assoc k.gone k.left (new ∷ [])) (climbs_push tick_of (k.gone ++ k.left) new k.rise put_past);
+      rise = subst (IsNonDecreasingBy tick_of) (append_assoc k.gone k.left (new ∷ [])) (IsNonDecreasingBy-push tick_of (k.gone ++ k.left) new k.rise (λ q some. put_past (length (k.gone ++ k.left) - 1) q (omega arith)));
       past = put_all (λ r. tick_of r ≤ t) put_past (omega arith);
       good = put_all (Good m put_state) put_good (let i = ok.inside in omega (arith, length-set d.joiner.feeds f (Holding t)), ok.ours, ok.reads);
       sound = k.sound;
@@ -274,7 +269,7 @@ module _ {T : Type 0} (m : BankMeaning) (vs : List (Event T)) (d : Desk T) (k : 
     same_size : length taken.joiner.feeds ≡ length d.joiner.feeds
     same_size = length-set d.joiner.feeds g.feed (released (feed_state d.joiner g.feed))
 
-    take_good : AllByRecursion (Good m taken.joiner) (k.gone ++ k.left)
+    take_good : All (Good m taken.joiner) (k.gone ++ k.left)
     take_good = All-weaker (Good m d.joiner) (Good m taken.joiner) (λ r h. (let i = h.0 in omega (arith, same_size), h.1, h.2)) (k.gone ++ k.left) k.good
 
     take_kept : Kept m (vs ++ Take (Ok g) ∷ []) taken
@@ -282,12 +277,12 @@ module _ {T : Type 0} (m : BankMeaning) (vs : List (Event T)) (d : Desk T) (k : 
       gone = k.gone ++ o.head ∷ [];
       left = o.tail;
       split = accepted_none vs (Take (Ok g)) refl ∙ k.split ∙ take_split;
-      gave = given_push vs (Take (Ok g)) ∙ ap (λ z. z ++ g ∷ []) k.gave ∙ ap (λ z. map handed k.gone ++ z ∷ []) (sym o.same) ∙ sym (map-++ handed k.gone (o.head ∷ []));
+      gave = given_push vs (Take (Ok g)) ∙ ap (λ z. z ++ g ∷ []) k.gave ∙ ap (λ z. map handed k.gone ++ z ∷ []) (sym o.same) ∙ sym (map-append handed k.gone (o.head ∷ []));
       queue = o.after;
       wait = take_wait;
-      rise = subst (Climbs tick_of) take_split k.rise;
-      past = subst (AllByRecursion (λ r. tick_of r ≤ d.joiner.last)) take_split k.past;
-      good = subst (AllByRecursion (Good m taken.joiner)) take_split take_good;
+      rise = subst (IsNonDecreasingBy tick_of) take_split k.rise;
+      past = subst (All (λ r. tick_of r ≤ d.joiner.last)) take_split k.past;
+      good = subst (All (Good m taken.joiner)) take_split take_good;
       sound = k.sound;
       room = let z = k.room in omega (arith, same_size);
     }

@@ -1,15 +1,17 @@
 -- a mask of the idle feeds: its ones count them, and its trailing zeros find the lowest
-use Rattle.std.proofs.Common.{◌≡◌, ℕ, zero, suc, ◌+◌, ◌-◌, ◌*◌, ◌/◌, ◌%◌, ◌^◌, ◌<◌, ◌≤◌, min, max, Bool, true, false, cond, not, List, [], ◌∷◌, map, length, get_or, set, replicate, filter, sym, refl, ap, ◌∙◌, ap₂, not-suc-le-zero, pow-suc, arith, pow_pos}
+use Rattle.std.proofs.Common.{◌≡◌, ℕ, zero, suc, ◌+◌, ◌-◌, ◌*◌, ◌/◌, ◌%◌, ◌^◌, ◌<◌, ◌≤◌, min, max, Bool, true, false, cond, not, List, [], ◌∷◌, map, length, get_or, set, Some, replicate, filter, sym, refl, ap, ◌∙◌, ap₂, not-suc-le-zero, pow-suc, arith, pow_pos}
 use lib.Bits.{bit_or, bit_and, or_step, and_step, or_zero_r, and_mask}
 use lib.Count.{ones, count_trailing_zeros}
 use lib.Lanes.{mask_l}
-use Rattle.std.specs.List.{prefix_len}
-use Rattle.std.proofs.lemmas.List.Sums.{length-filter}
+use Rattle.std.specs.List.{position_or_len, prefix_len, slice_get}
+use Rattle.std.proofs.lemmas.Option.{get_or_from_slice_get, slice_get-get_or, slice_get_within}
+use Rattle.std.proofs.lemmas.List.Sums.{get_or-le-sum_by, length-filter}
+use Rattle.std.proofs.lemmas.List.{length-map, map-set}
 use Rattle.std.proofs.lemmas.Nat.{pow_below}
-use Rattle.std.proofs.lemmas.Simd.{ones-mask_l, ones-mask_l_cons, trailing_mask_l, mask_l-mod}
+use Rattle.std.proofs.lemmas.Simd.{ones-mask_l, trailing_mask_l, mask_l-mod}
 use Rattle.order.specs.declared.state.FeedState.{FeedState}
 use Rattle.order.specs.declared.state.FeedState.TheVariants.{Idle, Holding, Closing, Closed}
-use Rattle.order.specs.Queue.{is_idle, idle_mask, IdleFeeds}
+use Rattle.order.specs.Queue.{is_idle, idle_mask}
 
 idle_is : (v : FeedState) → is_idle v ≡ true → v ≡ Idle
 idle_is Idle e = refl
@@ -30,22 +32,17 @@ first_passes {X} p (x ∷ xs) d h = go (p x) refl h (first_passes p xs d)
     go true e k r = (omega arith, e)
     go false e k r = let s = r (omega arith) in (omega (arith, s.0), ap (λ z. p (get_or (x ∷ xs) z d)) (let o : 1 + tail ≡ suc tail = omega arith in o) ∙ s.1)
 
-pub masked : (xs : List FeedState) → length xs ≤ 64 → 0 < mask_l (map is_idle xs) → IdleFeeds xs (ones (mask_l (map is_idle xs))) (count_trailing_zeros 64 (mask_l (map is_idle xs)))
-masked xs l h =
-    let e : count_trailing_zeros 64 (mask_l (map is_idle xs)) ≡ prefix_len (λ x. not (is_idle x)) xs = trailing_mask_l is_idle 64 xs l h in
-    let f = first_passes is_idle xs Closed h in
-    record {
-      many = ones-mask_l is_idle xs ∙ sym (length-filter is_idle xs);
-      some = λ _. (omega (arith, e, f.0), ap (λ z. get_or xs z Closed) e ∙ idle_is (get_or xs (prefix_len (λ x. not (is_idle x)) xs) Closed) f.1);
-    }
-
 no_ones : ones 0 ≡ 0
 unfolding ones
 no_ones = refl
 
--- no bit is set exactly where no feed is idle
-pub none_masked : (xs : List FeedState) → mask_l (map is_idle xs) ≡ 0 → length (filter is_idle xs) ≡ 0
-none_masked xs e = length-filter is_idle xs ∙ sym (ones-mask_l is_idle xs) ∙ ap ones e ∙ no_ones
+-- the ones of the mask count the idle feeds
+pub idle_ones : (xs : List FeedState) → ones (idle_mask xs) ≡ length (filter is_idle xs)
+idle_ones xs = ones-mask_l is_idle xs ∙ sym (length-filter is_idle xs)
+
+-- no bit is set where no feed is idle
+pub none_masked : (xs : List FeedState) → idle_mask xs ≡ 0 → length (filter is_idle xs) ≡ 0
+none_masked xs e = sym (idle_ones xs) ∙ ap ones e ∙ no_ones
 
 -- a bit set and a bit cleared
 small_bit : (b : Bool) → cond b 1 0 ≤ 1
@@ -98,30 +95,30 @@ mask_off (b ∷ bs) (suc i) (suc k) h l =
     ap (λ (x : ℕ). cond b 1 0 + 2 * x) (mask_off bs i k (omega arith) (omega arith))
     ∙ sym (ap (λ (x : ℕ). bit_and (cond b 1 0 + 2 * mask_l bs) x) p ∙ and_at (cond b 1 0) 1 (mask_l bs) (2 ^ k - 1 - 2 ^ i) s (omega arith) ∙ ap (λ (x : ℕ). x + 2 * bit_and (mask_l bs) (2 ^ k - 1 - 2 ^ i)) same)
 
-map_set : (xs : List FeedState) (i : ℕ) (v : FeedState) → map is_idle (set xs i v) ≡ set (map is_idle xs) i (is_idle v)
-map_set [] i v = refl
-map_set (x ∷ xs) zero v = refl
-map_set (x ∷ xs) (suc i) v = ap {B = List Bool} (λ z. is_idle x ∷ z) (map_set xs i v)
-
-map_length : (xs : List FeedState) → length (map is_idle xs) ≡ length xs
-map_length [] = refl
-map_length (x ∷ xs) = ap suc (map_length xs)
-
-pub mask_freed : (xs : List FeedState) (i : ℕ) (v : FeedState) → is_idle v ≡ true → i < length xs → idle_mask (set xs i v) ≡ bit_or (idle_mask xs) (2 ^ i)
-mask_freed xs i v e h =
-    ap mask_l (map_set xs i v ∙ ap (set (map is_idle xs) i) e) ∙ mask_on (map is_idle xs) i (omega (arith, map_length xs))
-
-pub mask_busied : (xs : List FeedState) (i k : ℕ) (v : FeedState) → is_idle v ≡ false → i < length xs → length xs ≤ k → idle_mask (set xs i v) ≡ bit_and (idle_mask xs) (2 ^ k - 1 - 2 ^ i)
-mask_busied xs i k v e h l =
-    ap mask_l (map_set xs i v ∙ ap (set (map is_idle xs) i) e) ∙ mask_off (map is_idle xs) i k (omega (arith, map_length xs)) (omega (arith, map_length xs))
+-- a feed's state is written: its bit is set where it is idle now, and else cleared
+pub mask_set : (xs : List FeedState) (i k : ℕ) (v : FeedState) → i < length xs → length xs ≤ k →
+    idle_mask (set xs i v) ≡ cond (is_idle v) (bit_or (idle_mask xs) (2 ^ i)) (bit_and (idle_mask xs) (2 ^ k - 1 - 2 ^ i))
+mask_set xs i k v h l = ap mask_l (map-set is_idle xs i v) ∙ go (is_idle v)
+  where
+    go : (b : Bool) → mask_l (set (map is_idle xs) i b) ≡ cond b (bit_or (idle_mask xs) (2 ^ i)) (bit_and (idle_mask xs) (2 ^ k - 1 - 2 ^ i))
+    go true = mask_on (map is_idle xs) i (omega (arith, length-map xs is_idle))
+    go false = mask_off (map is_idle xs) i k (omega (arith, length-map xs is_idle)) (omega (arith, length-map xs is_idle))
 
 -- every one of the first n feeds idle
 pub all_masked : (n : ℕ) → idle_mask (replicate n Idle) ≡ 2 ^ n - 1
 all_masked zero = refl
 all_masked (suc n) = let e = all_masked n in omega (arith, pow-suc 2 n, pow_pos n)
 
--- a mask that is not 0 has a one
-pub some_ones : (bs : List Bool) → 0 < mask_l bs → 0 < ones (mask_l bs)
-some_ones [] h = absurd (not-suc-le-zero h)
-some_ones (true ∷ bs) h = omega (arith, ones-mask_l_cons true bs)
-some_ones (false ∷ bs) h = omega (arith, ones-mask_l_cons false bs, some_ones bs (omega arith))
+-- the lowest bit that is set is that of an idle feed
+pub lowest_idle : (xs : List FeedState) → length xs ≤ 64 → 0 < idle_mask xs → slice_get xs (count_trailing_zeros 64 (idle_mask xs)) ≡ Some Idle
+lowest_idle xs l h =
+    let k = position_or_len is_idle xs in
+    let f = first_passes is_idle xs Closed h in
+    ap (slice_get xs) (trailing_mask_l is_idle 64 xs l h) ∙ slice_get-get_or xs k Closed f.0 ∙ ap Some (idle_is (get_or xs k Closed) f.1)
+
+-- where one feed is idle, so many are that it is not 0
+pub some_idle : (xs : List FeedState) (f : ℕ) → slice_get xs f ≡ Some Idle → 0 < length (filter is_idle xs)
+some_idle xs f e =
+    let inside = slice_get_within xs f Idle e in
+    let one : ◌≡◌ {A = ℕ} 1 (cond (is_idle (get_or xs f Closed)) 1 0) = ap (λ v. cond (is_idle v) 1 0) (sym (get_or_from_slice_get xs f Idle Closed e)) in
+    omega (arith, one, length-filter is_idle xs, get_or-le-sum_by (λ v. cond (is_idle v) 1 0) xs f Closed inside)

@@ -2,10 +2,15 @@
 use Rattle.std.proofs.Common.{◌≡◌, ℕ, zero, suc, ◌+◌, ◌-◌, ◌<◌, ◌≤◌, Bool, true, false, cond, ◌||◌, eqb, ltb, ◌⊎◌, ◌↔◌, List, [], ◌∷◌, ◌++◌, map, length, get_or, take, replicate, Some, Ok, Err, filter, Option, sym, refl, ap, ◌∙◌, subst, inl, inr, append_assoc, append-nil, not-suc-le-zero, arith, length-append}
 use lib.ListN.{length-map, length-replicate}
 use lib.Seq.{append_snoc}
-use Rattle.std.specs.List.{AllByRecursion, slice_get}
+use Rattle.std.specs.List.{All, slice_get}
 use Rattle.std.proofs.lemmas.Bool.{eq-eqb, eqb-true, ltb-false, cases_lt}
-use Rattle.std.proofs.lemmas.List.Elements.{filter-append}
-use Rattle.std.proofs.ByRecursion.{All-weaker, all_kept_by, kept_by_passes}
+use Rattle.std.proofs.Math.Seq.{take-append_seam, drop-append_seam}
+use Rattle.std.specs.List.Sorted.{IsNonDecreasing, IsNonDecreasingBy}
+use Rattle.std.proofs.lemmas.Grind.{flat_map-append}
+use Rattle.std.proofs.lemmas.List.{get_or-map, map-append}
+use Rattle.std.proofs.lemmas.List.Sorted.{IsNonDecreasingBy-short, IsNonDecreasingBy-take, IsNonDecreasingBy-drop, IsNonDecreasingBy-from_default}
+use Rattle.std.proofs.lemmas.List.Elements.{filter-append, All-nil, All-weaker, All-filter, filter_passes}
+use Rattle.std.proofs.lemmas.Simd.{map-map}
 use Rattle.refusals.specs.Said.{plain}
 use Rattle.order.specs.declared.state.FeedState.{FeedState}
 use Rattle.order.specs.declared.state.FeedState.TheVariants.{Idle, Holding, Closing, Closed}
@@ -14,15 +19,11 @@ use Rattle.leap.specs.Table.{Table, Sound}
 use Rattle.clocks.specs.Counts.{Count}
 use Rattle.clocks.specs.Banks.{BankMeaning, LawfulBank}
 use Rattle.order.specs.Desk.{Desk, Event, Take, feed_state, admitted, admits, made, Step, Run}
-use Rattle.order.specs.History.{Record, handed, accepted, given, accepted_of, given_of, waiting, waiting_in, Waits, NeverFalls}
+use Rattle.order.specs.History.{Record, handed, accepted, given, accepted_of, given_of, waiting, waiting_in, accepted_by, Waits}
 use Rattle.order.specs.Promise.{TrueTick, OrderKept}
-use Rattle.order.proofs.Rows.{nth_some, nth_map_front, some_same, all_nth, nth_seam, nth_after, Climbs, climbs_left, climbs_right, never_falls, kept_map, map_map, map-++}
+use Rattle.order.proofs.Rows.{nth_some, nth_map_front, some_same, all_nth, nth_seam, nth_after, kept_map}
 use Rattle.order.proofs.Steps.{take_ok}
-use Rattle.order.proofs.Kept.{pair, of_feed, tick_of, Good, Kept, accepted-++, step_keeps, First, first_of, in_range}
-
-take_at_seam : {A : Type 0} (xs ys : List A) → take (length xs) (xs ++ ys) ≡ xs
-take_at_seam [] ys = refl
-take_at_seam {A} (x ∷ xs) ys = ap {B = List A} (λ z. x ∷ z) (take_at_seam xs ys)
+use Rattle.order.proofs.Kept.{pair, of_feed, tick_of, Good, Kept, step_keeps, First, first_of, in_range}
 
 waits_some : {T : Type 0} (v : FeedState) (o : Option T) → 0 < length (waiting_in v o) → Waits v
 waits_some Idle o h = absurd (not-suc-le-zero h)
@@ -35,6 +36,13 @@ some_waits Idle x h = elim h [ ]
 some_waits (Holding t) x h = omega arith
 some_waits (Closing t) x h = omega arith
 some_waits Closed x h = elim h [ ]
+
+-- ticks that rise along records rise as a list
+ticks_rise : {T : Type 0} (rs : List (Record T)) → IsNonDecreasingBy tick_of rs → IsNonDecreasing (map tick_of rs)
+ticks_rise [] h = IsNonDecreasingBy-short (λ n. n) [] (omega arith)
+ticks_rise (r ∷ rs) h = IsNonDecreasingBy-from_default (λ n. n) (map tick_of (r ∷ rs)) r.tick (λ i j l k.
+    let inside : j < length (r ∷ rs) = omega (arith, length-map (r ∷ rs) tick_of) in
+    rw (get_or-map tick_of (r ∷ rs) i r r.tick (omega arith), get_or-map tick_of (r ∷ rs) j r r.tick inside) (h i j r l inside))
 
 -- ---- runs
 
@@ -61,9 +69,9 @@ module _ {T : Type 0} (m : BankMeaning) (law : LawfulBank m) (start : Table) (so
     gave = refl;
     queue = refl;
     wait = λ f. made_wait (admits m.feeds (length slots)) f (slice_get slots f);
-    rise = tt;
-    past = tt;
-    good = tt;
+    rise = IsNonDecreasingBy-short tick_of [] (omega arith);
+    past = All-nil _;
+    good = All-nil _;
     sound = sound_start;
     room = let h = admits_few m.feeds (length slots) in omega (arith, length-replicate (admits m.feeds (length slots)) Idle);
   }
@@ -82,11 +90,11 @@ module _ {T : Type 0} (m : BankMeaning) (law : LawfulBank m) (start : Table) (so
   -- ---- a run that has ended
   module _ (vs : List (Event T)) (d : Desk T) (k : Kept m vs d) where
     -- what holds of each accepted record holds of the nth of a feed
-    nth_accepted : (P : Record T → Type 0) → AllByRecursion P (k.gone ++ k.left) → (f n : ℕ) (r : Record T) → slice_get (accepted_of f vs) n ≡ Some r → P r × (r.feed ≡ f)
+    nth_accepted : (P : Record T → Type 0) → All P (k.gone ++ k.left) → (f n : ℕ) (r : Record T) → slice_get (accepted_of f vs) n ≡ Some r → P r × (r.feed ≡ f)
     nth_accepted P h f n r e =
-        let all : AllByRecursion P (accepted vs) = subst (AllByRecursion P) (sym k.split) h in (
-          all_nth P (accepted_of f vs) n r (all_kept_by (λ q. eqb q.feed f) P (accepted vs) all) e,
-          eqb-true r.feed f (all_nth (λ q. eqb q.feed f ≡ true) (accepted_of f vs) n r (kept_by_passes (λ q. eqb q.feed f) (accepted vs)) e),
+        let all : All P (accepted vs) = subst (All P) (sym k.split) h in (
+          all_nth P (accepted_of f vs) n r (All-filter (λ q. eqb q.feed f) P (accepted vs) all) e,
+          eqb-true r.feed f (all_nth (λ q. eqb q.feed f ≡ true) (accepted_of f vs) n r (filter_passes (λ q. eqb q.feed f) (accepted vs)) e),
         )
 
     read_still : (f n : ℕ) (r : Record T) → slice_get (accepted_of f vs) n ≡ Some r → (f < m.feeds) × ((m.scale_of f).reads d.joiner.table r.stamp ≡ Ok r.tick)
@@ -104,10 +112,10 @@ module _ {T : Type 0} (m : BankMeaning) (law : LawfulBank m) (start : Table) (so
     given_first : given vs ≡ map handed (take (length (given vs)) (accepted vs))
     given_first =
         let n : length (given vs) ≡ length k.gone = ap length k.gave ∙ length-map k.gone handed in
-        k.gave ∙ ap (map handed) (sym (ap (λ z. take z (accepted vs)) n ∙ ap (take (length k.gone)) k.split ∙ take_at_seam k.gone k.left))
+        k.gave ∙ ap (map handed) (sym (ap (λ z. take z (accepted vs)) n ∙ ap (take (length k.gone)) k.split ∙ take-append_seam k.gone k.left))
 
-    all_ours : AllByRecursion (λ r. (r.feed < length d.joiner.feeds) × Count r.tick) (accepted vs)
-    all_ours = subst (AllByRecursion (λ r. (r.feed < length d.joiner.feeds) × Count r.tick)) (sym k.split)
+    all_ours : All (λ r. (r.feed < length d.joiner.feeds) × Count r.tick) (accepted vs)
+    all_ours = subst (All (λ r. (r.feed < length d.joiner.feeds) × Count r.tick)) (sym k.split)
         (All-weaker (Good m d.joiner) (λ r. (r.feed < length d.joiner.feeds) × Count r.tick)
         (λ r h. (h.0, (law r.feed h.1).reads_counts k.sound h.2)) (k.gone ++ k.left) k.good)
 
@@ -120,9 +128,9 @@ module _ {T : Type 0} (m : BankMeaning) (law : LawfulBank m) (start : Table) (so
     turn : (f : ℕ) → map (λ g. (g.tick, g.body)) (given_of f vs) ++ waiting d f ≡ map (λ r. (r.tick, r.body)) (accepted_of f vs)
     turn f =
         ap (λ z. map (λ g. (g.tick, g.body)) z ++ waiting d f) (given_is f)
-        ∙ ap (λ z. z ++ waiting d f) (map_map handed (λ g. (g.tick, g.body)) (of_feed f k.gone))
+        ∙ ap (λ z. z ++ waiting d f) (map-map (λ g. (g.tick, g.body)) handed (of_feed f k.gone))
         ∙ ap (λ z. map pair (of_feed f k.gone) ++ z) (sym (k.wait f))
-        ∙ sym (map-++ pair (of_feed f k.gone) (of_feed f k.left))
+        ∙ sym (map-append pair (of_feed f k.gone) (of_feed f k.left))
         ∙ ap (map pair) (sym (accepted_is f))
 
     given_tick : (f n : ℕ) (r : Record T) (g : Handed T) → slice_get (accepted_of f vs) n ≡ Some r → slice_get (given_of f vs) n ≡ Some g → handed r ≡ g
@@ -149,10 +157,10 @@ module _ {T : Type 0} (m : BankMeaning) (law : LawfulBank m) (start : Table) (so
       λ w. let p = held_waits f w in let c = counts f in omega arith,
     )
 
-    fall_never : NeverFalls (map (λ g. g.tick) (given vs))
+    fall_never : IsNonDecreasing (map (λ g. g.tick) (given vs))
     fall_never =
-        subst NeverFalls (sym (ap (map (λ g. g.tick)) k.gave ∙ map_map handed (λ g. g.tick) k.gone))
-        (never_falls tick_of k.gone (climbs_left tick_of k.gone k.left k.rise))
+        let rise : IsNonDecreasingBy tick_of k.gone = subst (IsNonDecreasingBy tick_of) (take-append_seam k.gone k.left) (IsNonDecreasingBy-take tick_of (length k.gone) (k.gone ++ k.left) k.rise) in
+        subst IsNonDecreasing (sym (ap (map (λ g. g.tick)) k.gave ∙ map-map (λ g. g.tick) handed k.gone)) (ticks_rise k.gone rise)
 
   -- ---- the moment at which a take hands out a record
   module _ (before after : List (Event T)) (v : Event T) (mid d : Desk T) (k : Kept m before mid) (e : Kept m (before ++ v ∷ after) d) (g : Handed T) (o : First m before mid k g) where
@@ -161,16 +169,17 @@ module _ {T : Type 0} (m : BankMeaning) (law : LawfulBank m) (start : Table) (so
 
     seam : accepted (before ++ v ∷ after) ≡ k.gone ++ (o.head ∷ more)
     seam =
-        accepted-++ before (v ∷ after) ∙ ap (λ z. z ++ accepted (v ∷ after)) k.split
+        flat_map-append accepted_by before (v ∷ after) ∙ ap (λ z. z ++ accepted (v ∷ after)) k.split
         ∙ append_assoc k.gone k.left (accepted (v ∷ after)) ∙ ap (λ z. k.gone ++ (z ++ accepted (v ∷ after))) o.is
 
     seam_of : (f : ℕ) → accepted_of f (before ++ v ∷ after) ≡ of_feed f k.gone ++ of_feed f (o.head ∷ more)
     seam_of f = ap (of_feed f) seam ∙ filter-append (λ r. eqb r.feed f) k.gone (o.head ∷ more)
 
-    climbing : AllByRecursion (λ q. tick_of o.head ≤ tick_of q) (o.head ∷ more)
+    climbing : All (λ q. tick_of o.head ≤ tick_of q) (o.head ∷ more)
     climbing =
-        let c : Climbs tick_of (k.gone ++ (o.head ∷ more)) = subst (Climbs tick_of) (sym e.split ∙ seam) e.rise in
-        (omega arith, (climbs_right tick_of k.gone (o.head ∷ more) c).0)
+        let rise : IsNonDecreasingBy tick_of (k.gone ++ (o.head ∷ more)) = subst (IsNonDecreasingBy tick_of) (sym e.split ∙ seam) e.rise in
+        let left : IsNonDecreasingBy tick_of (o.head ∷ more) = subst (IsNonDecreasingBy tick_of) (drop-append_seam k.gone (o.head ∷ more)) (IsNonDecreasingBy-drop tick_of (length k.gone) (k.gone ++ (o.head ∷ more)) rise) in
+        λ i q inside. left 0 i q (omega arith) inside
 
     gone_count : (f : ℕ) → length (given_of f before) ≡ length (of_feed f k.gone)
     gone_count f = ap length (given_is before mid k f) ∙ length-map (of_feed f k.gone) handed
@@ -189,7 +198,7 @@ module _ {T : Type 0} (m : BankMeaning) (law : LawfulBank m) (start : Table) (so
     not_before : (f n : ℕ) (r : Record T) → slice_get (accepted_of f (before ++ v ∷ after)) n ≡ Some r → length (given_of f before) ≤ n → o.head.tick ≤ r.tick
     not_before f n r a l =
         nth_after (λ q. tick_of o.head ≤ tick_of q) (of_feed f k.gone) (of_feed f (o.head ∷ more)) n r
-        (all_kept_by (λ q. eqb q.feed f) (λ q. tick_of o.head ≤ tick_of q) (o.head ∷ more) climbing)
+        (All-filter (λ q. eqb q.feed f) (λ q. tick_of o.head ≤ tick_of q) (o.head ∷ more) climbing)
         (let c = gone_count f in omega arith)
         (ap (λ z. slice_get z n) (sym (seam_of f)) ∙ a)
 

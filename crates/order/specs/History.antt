@@ -1,6 +1,6 @@
 -- Words over a history of calls: what was accepted, what was handed out, what waits.
-use Rattle.std.specs.Prelude.{◌≡◌, ℕ, ◌<◌, ◌≤◌, List, [], ◌∷◌, ◌++◌, length, Some, None, Ok, Err, filter, Option, nat_eq, slice_index}
-use Rattle.std.specs.List.{slice_get}
+use Rattle.std.specs.Prelude.{◌≡◌, ℕ, List, [], ◌∷◌, length, Some, None, Ok, Err, filter, Option, nat_eq}
+use Rattle.std.specs.List.{flat_map, slice_get}
 use Rattle.calls.specs.declared.call.Handed.{Handed}
 use Rattle.clocks.specs.Forms.{Stamp}
 use Rattle.order.specs.declared.state.FeedState.{FeedState}
@@ -36,13 +36,11 @@ given_by Elsewhere = []
 
 -- the records accepted by a list of calls, over all feeds, in the order of the puts
 abbrev pub accepted : {T : Type 0} → List (Event T) → List (Record T)
-accepted [] = []
-accepted (v ∷ vs) = accepted_by v ++ accepted vs
+accepted vs = flat_map accepted_by vs
 
 -- what take gave, over all feeds, in the order of the takes
 abbrev pub given : {T : Type 0} → List (Event T) → List (Handed T)
-given [] = []
-given (v ∷ vs) = given_by v ++ given vs
+given vs = flat_map given_by vs
 
 -- those of one feed
 abbrev pub accepted_of : {T : Type 0} → ℕ → List (Event T) → List (Record T)
@@ -75,6 +73,3 @@ waiting_in Closed o = []
 -- the tick held and the body in the slot of the feed's waiting record, if there is one
 abbrev pub waiting : {T : Type 0} → Desk T → ℕ → List (ℕ × T)
 waiting d f = waiting_in (feed_state d.joiner f) (slice_get d.slots f)
-
-abbrev pub NeverFalls : List ℕ → Type 0
-NeverFalls xs = (i j : ℕ) → i ≤ j → j < length xs → slice_index xs i ≤ slice_index xs j

@@ -1,12 +1,13 @@
 -- The promise about the order of records, over every list of calls.
 use Rattle.std.specs.Prelude.{◌≡◌, ℕ, ◌+◌, ◌-◌, ◌<◌, ◌≤◌, ◌↔◌, List, ◌∷◌, ◌++◌, map, length, take, Some, Ok}
-use Rattle.std.specs.List.{AllByRecursion, slice_get}
+use Rattle.std.specs.List.{All, slice_get}
+use Rattle.std.specs.List.Sorted.{IsNonDecreasing}
 use Rattle.leap.specs.Table.{Table, Sound}
 use Rattle.calls.specs.declared.call.Handed.{Handed}
 use Rattle.clocks.specs.Counts.{Count}
 use Rattle.clocks.specs.Banks.{BankMeaning}
 use Rattle.order.specs.Desk.{Event, Desk, Run, made, feed_state}
-use Rattle.order.specs.History.{Record, handed, accepted, accepted_of, given, given_of, HandsOut, Waits, waiting, NeverFalls}
+use Rattle.order.specs.History.{Record, handed, accepted, accepted_of, given, given_of, HandsOut, Waits, waiting}
 
 -- a true tick of a record of feed f: under the table after the last call the feed shows it as the record's stamp. There may be several, or none
 abbrev pub TrueTick : {T : Type 0} → BankMeaning → Desk T → ℕ → Record T → ℕ → Type 0
@@ -25,7 +26,7 @@ pub record OrderKept {T : Type 0} (m : BankMeaning) (vs : List (Event T)) (d : D
       t' + (m.scale_of f).loss < t →
       (before after : List (Event T)) (v : Event T) → vs ≡ before ++ v ∷ after → HandsOut f n before v → n' < length (given_of f' before)
   -- the ticks that take gives, over all feeds, never fall
-  pub ticks_never_fall : NeverFalls (map (λ g. g.tick) (given vs))
+  pub ticks_never_fall : IsNonDecreasing (map (λ g. g.tick) (given vs))
   -- what take gave for a feed, and then its waiting record, are the ticks and bodies of its accepted records in the order of the puts
   pub all_in_turn :
       (f : ℕ) → map (λ g. (g.tick, g.body)) (given_of f vs) ++ waiting d f ≡ map (λ r. (r.tick, r.body)) (accepted_of f vs)
@@ -36,7 +37,7 @@ pub record OrderKept {T : Type 0} (m : BankMeaning) (vs : List (Event T)) (d : D
   -- over all feeds, what take gave are the first accepted records, in the order of the puts
   pub first_come : given vs ≡ map handed (take (length (given vs)) (accepted vs))
   -- accepted ticks are counts, and their feeds are the joiner's
-  pub ours : AllByRecursion (λ r. (r.feed < length d.joiner.feeds) × Count r.tick) (accepted vs)
+  pub ours : All (λ r. (r.feed < length d.joiner.feeds) × Count r.tick) (accepted vs)
   -- the leap table is still a sound one
   pub table_sound : Sound d.joiner.table
 

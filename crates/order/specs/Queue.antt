@@ -1,5 +1,5 @@
 -- The queue of waiting feeds, beside the feeds' states.
-use Rattle.std.specs.Prelude.{◌≡◌, ℕ, ◌<◌, Bool, true, false, cond, List, [], ◌∷◌, map, length, Some, None, filter, Option, ◌==◌, nat_eq, slice_index, slice_index_or}
+use Rattle.std.specs.Prelude.{◌≡◌, ℕ, Bool, true, false, cond, List, [], ◌∷◌, map, length, filter, nat_eq, slice_index_or}
 use Rattle.std.specs.Simd.Lanes.{mask_l}
 use Rattle.order.specs.declared.state.FeedState.{FeedState}
 use Rattle.order.specs.declared.state.FeedState.TheVariants.{Idle, Holding, Closing, Closed}
@@ -27,12 +27,3 @@ is_idle Closed = false
 -- the idle feeds as a number: feed f has the bit of weight 2 ^ f
 abbrev pub idle_mask : List FeedState → ℕ
 idle_mask feeds = mask_l (map is_idle feeds)
-
--- so many of the feeds are idle, and if there is any, this is one
-pub record IdleFeeds (feeds : List FeedState) (idle one : ℕ) : Type 0 where
-  pub many : idle ≡ length (filter is_idle feeds)
-  pub some : 0 < idle → (one < length feeds) × (slice_index_or feeds one Closed ≡ Idle)
-
--- the first of the feeds that wait, of a row whose first `waiting` they are
-abbrev pub first_queued : ℕ → List ℕ → Option ℕ
-first_queued waiting queue = cond (waiting == 0) None (Some (slice_index queue 0))

@@ -1,98 +1,48 @@
-use Rattle.std.proofs.Common.{◌≡◌, ℕ, ◌≤◌, List, [], ◌∷◌, ◌++◌, length, set, Ok, Err, Result, sym, refl, ap, ◌∙◌, subst, arith, length-take, rules}
+use Rattle.std.proofs.Common.{◌≤◌, length, set, Err, Result, sym, ap, ◌∙◌, arith}
+use Rattle.std.proofs.lemmas.Option.{slice_get_within}
 use Rattle.std.proofs.lemmas.Result.{err_from_is_err_and}
 use Rattle.refusals.specs.declared.refusal.Refusal.{Refusal}
 use Rattle.refusals.specs.Said.{said, told}
-use Rattle.order.specs.declared.state.FeedState.{FeedState}
-use Rattle.order.specs.declared.state.FeedState.TheVariants.{Holding}
-use Rattle.order.specs.Desk.{held, after_put}
-use Rattle.order.specs.Queue.{Queued, Counted}
-use Rattle.joiner.specs.Held.{feeds_of, queue_of}
-use Rattle.joiner.specs.Joiner.{state_of, desk_of}
-use Rattle.joiner.proofs.Putting.{found, put_nowhere, put_refused, put_accepted, put_room, put_counted, put_queued, put_desk}
+use Rattle.joiner.specs.Joiner.{state_of}
+use Rattle.joiner.proofs.Putting.{room_for_one, put_waits, put_accepted, put_refused}
+use Rattle.joiner.proofs.Found.{found, agreed}
 use Rattle.joiner.proofs.joiner.Joiner.put.Goals as goal
 
-pub returns-in_default : goal.returns-in_default
-returns-in_default g c =
+pub returns-in_err-change-clause-answer : goal.returns-in_err-change-clause-answer
+returns-in_err-change-clause-answer g c =
     let j = c.args.self.now in
     let s = state_of j in
     let k = length c.args.shelf.now.slots.now in
-    let room : length (feeds_of j.feeds) ≤ k = omega (arith, c.count.ensures, c.if-shelf-count.false) in
-    record { answer = sym (put_nowhere (g.B.Bank.meaning j.bank) s k c.args.feed c.args.stamp room c.in_default.ensures); desk = refl; kept = refl; lent = refl }
-
-pub returns-in_err-change : goal.returns-in_err-change
-returns-in_err-change g c =
-    let j = c.args.self.now in
-    let s = state_of j in
-    let k = length c.args.shelf.now.slots.now in
-    let room : length (feeds_of j.feeds) ≤ k = omega (arith, c.count.ensures, c.if-shelf-count.false) in
-    let q = err_from_is_err_and c.from_residual.result c.from_residual.ensures.1 in
-    let z = c.in_err-change.field-0.0 in
-    let same : c.from_residual.result ≡ Err z = q.1 ∙ ap Err q.2 in
-    let no = put_refused (g.B.Bank.meaning j.bank) s k c.args.feed c.args.stamp room c.tick_of.result c.tick_of.ensures c.in-Some.state (said z) c.in-Some.ensures (sym (ap told c.in_err-change.was) ∙ c.change.ensures.answer) in
-    record {
-      answer = ap (λ (r : Result ℕ Refusal). told r) same ∙ sym no;
-      desk = ap (λ (r : Result ℕ Refusal). after_put (desk_of j c.args.shelf.now.slots.now) c.args.feed c.args.body (told r)) (sym same);
-      kept = refl;
-      lent = refl;
-    }
+    let room : length s.feeds ≤ k = omega (arith, c.len.ensures.is, c.if-shelf-len.false) in
+    let q = err_from_is_err_and c.from_residual-in_err-change.result c.from_residual-in_err-change.ensures.1 in
+    ap (λ (r : Result _ Refusal). told r) (q.1 ∙ ap Err q.2)
+    ∙ put_refused (g.B.Bank.meaning j.bank) s k c.args.feed c.args.stamp room c.in_ok-state.state (found c.state.ensures c.in_ok-state.ensures.ok_part) c.tick_of-reading.result c.tick_of-reading.ensures
+    (said c.in_err-change.field-0.0) (sym (ap told c.in_err-change.was) ∙ c.change.ensures.answer)
 
 pub store-requires : goal.store-requires
-store-requires g c = (found (feeds_of c.args.self.now.feeds) c.args.feed c.in-Some.state c.in-Some.ensures).0
+store-requires g c = slice_get_within c.args.self.now.feeds c.args.feed c.in_ok-state.state (found c.state.ensures c.in_ok-state.ensures.ok_part)
 
 pub push-requires : goal.push-requires
 push-requires g c =
-    let j = c.args.self.now in
-    let s = state_of j in
-    let k = length c.args.shelf.now.slots.now in
-    let room : length (feeds_of j.feeds) ≤ k = omega (arith, c.count.ensures, c.if-shelf-count.false) in
-    let there = found (feeds_of j.feeds) c.args.feed c.in-Some.state c.in-Some.ensures in
-    let o = put_accepted (g.B.Bank.meaning j.bank) s k c.args.feed c.args.stamp room c.tick_of.result c.tick_of.ensures c.in-Some.state c.in-Some.ensures (sym (ap told c.in_ok-change.was) ∙ c.change.ensures.answer) in
-    let few : length (feeds_of j.feeds) ≤ 64 = omega (arith, length-take j.feeds.count j.feeds.states, j.feeds.fits) in
-    put_room (feeds_of j.feeds) (queue_of j.queue) c.args.feed o.tick there.0 (there.1 ∙ o.was_idle) j.counted few
+    let j = c.args.self.now in (
+      omega arith,
+      room_for_one j.feeds j.queue c.args.feed c.in_ok-tick.tick c.in_ok-state.state c.tick_of-reading.result (found c.state.ensures c.in_ok-state.ensures.ok_part)
+          (agreed c.in_ok-change.was c.change.ensures.answer) (j.counted, j.queued) (omega (arith, c.len.ensures.is, c.len.ensures.few)),
+    )
 
 pub invariant_of-self : goal.invariant_of-self
 invariant_of-self g c =
     let j = c.args.self.now in
-    let s = state_of j in
-    let k = length c.args.shelf.now.slots.now in
-    let room : length (feeds_of j.feeds) ≤ k = omega (arith, c.count.ensures, c.if-shelf-count.false) in
-    let there = found (feeds_of j.feeds) c.args.feed c.in-Some.state c.in-Some.ensures in
-    let o = put_accepted (g.B.Bank.meaning j.bank) s k c.args.feed c.args.stamp room c.tick_of.result c.tick_of.ensures c.in-Some.state c.in-Some.ensures (sym (ap told c.in_ok-change.was) ∙ c.change.ensures.answer) in
-    let row : feeds_of c.store.new.self ≡ set (feeds_of j.feeds) c.args.feed _ = c.store.ensures ∙ ap (set (feeds_of j.feeds) c.args.feed) (c.change.ensures.after ∙ o.holds) in
-    let more = put_counted (feeds_of j.feeds) (queue_of j.queue) c.args.feed o.tick there.0 (there.1 ∙ o.was_idle) j.counted in
-    let queued = put_queued (feeds_of j.feeds) (queue_of j.queue) c.args.feed o.tick there.0 (there.1 ∙ o.was_idle) j.queued in record {
-      counted = subst (λ (q : List ℕ). Counted (feeds_of c.store.new.self) (length q)) (sym c.push.ensures) (subst (λ (xs : List FeedState). Counted xs (length (queue_of j.queue ++ c.args.feed ∷ []))) (sym row) more);
-      queued = subst (λ (q : List ℕ). Queued (feeds_of c.store.new.self) q) (sym c.push.ensures) (subst (λ (xs : List FeedState). Queued xs (queue_of j.queue ++ c.args.feed ∷ [])) (sym row) queued);
-    }
+    let waits = put_waits j.feeds j.queue c.args.feed c.in_ok-tick.tick c.in_ok-state.state c.tick_of-reading.result (found c.state.ensures c.in_ok-state.ensures.ok_part)
+    (agreed c.in_ok-change.was c.change.ensures.answer) (j.counted, j.queued) _ _ c.in_ok-tick.was (c.store.ensures ∙ ap (λ v. set j.feeds c.args.feed v) c.change.ensures.after) c.push.ensures in
+    record { counted = waits.0; queued = waits.1 }
 
-pub bounds-shelf-feed : goal.bounds-shelf-feed
-bounds-shelf-feed g c =
+pub returns-clause-answer : goal.returns-clause-answer
+returns-clause-answer g c =
     let j = c.args.self.now in
     let s = state_of j in
     let k = length c.args.shelf.now.slots.now in
-    let room : length (feeds_of j.feeds) ≤ k = omega (arith, c.count.ensures, c.if-shelf-count.false) in
-    let there = found (feeds_of j.feeds) c.args.feed c.in-Some.state c.in-Some.ensures in
-    let inside = there.0 in
-    omega arith
-
-pub offset_bounds-shelf-feed : goal.offset_bounds-shelf-feed
-offset_bounds-shelf-feed g c =
-    let inside = bounds-shelf-feed g c in
-    search rules
-
-pub returns : goal.returns
-returns g c =
-    let j = c.args.self.now in
-    let s = state_of j in
-    let k = length c.args.shelf.now.slots.now in
-    let room : length (feeds_of j.feeds) ≤ k = omega (arith, c.count.ensures, c.if-shelf-count.false) in
-    let there = found (feeds_of j.feeds) c.args.feed c.in-Some.state c.in-Some.ensures in
-    let o = put_accepted (g.B.Bank.meaning j.bank) s k c.args.feed c.args.stamp room c.tick_of.result c.tick_of.ensures c.in-Some.state c.in-Some.ensures (sym (ap told c.in_ok-change.was) ∙ c.change.ensures.answer) in
-    let tick : c.held_tick-tick.result ≡ o.tick = c.held_tick-tick.ensures ∙ ap held (c.change.ensures.after ∙ o.holds) in
-    record {
-      answer = ap Ok tick ∙ sym o.answer;
-      desk = put_desk s c.args.shelf.now.slots.now c.args.feed c.held_tick-tick.result c.held_tick-tick.result c.args.body (feeds_of c.store.new.self) (queue_of c.push.new.self)
-          (c.store.ensures ∙ ap (set (feeds_of j.feeds) c.args.feed) (c.change.ensures.after ∙ o.holds ∙ ap Holding (sym tick))) c.push.ensures refl;
-      kept = refl;
-      lent = refl;
-    }
+    let room : length s.feeds ≤ k = omega (arith, c.len.ensures.is, c.if-shelf-len.false) in
+    sym (ap told c.in_ok-tick.was)
+    ∙ put_accepted (g.B.Bank.meaning j.bank) s k c.args.feed c.args.stamp room c.in_ok-state.state (found c.state.ensures c.in_ok-state.ensures.ok_part) c.tick_of-reading.result c.tick_of-reading.ensures
+    (agreed c.in_ok-change.was c.change.ensures.answer)

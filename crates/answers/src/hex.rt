@@ -1,8 +1,19 @@
-// Lower-case hexadecimal text, two digits a byte.
-ghost use Rattle.std.specs.Prelude.{◌≡◌, ◌<◌, [], ◌∷◌, ◌++◌, OnOk};
+// Lower-case hexadecimal text, two digits a byte. (Digits of our own and not the kit's `hex`: its words are not those that frames are defined by, so it would take a proof more.)
+ghost use Rattle.std.specs.Prelude.{◌≡◌, ℕ, ◌<◌, List, [], ◌∷◌, ◌++◌, OnOk};
 ghost use Rattle.wire.specs.Bytes.{hex_digit, hexed, big_endian};
+ghost use Rattle.wire.specs.Kind.{kind_byte};
 
 use std::alloc::AllocError;
+use wire::kind::Kind;
+
+// A part of a line, which is written as some bytes.
+pub(crate) trait Part {
+    ghost bytes: { Self → List ℕ };
+
+    // Adds the part to a text.
+    fn write(&self, out: &mut Vec<u8>) -> Result<(), AllocError>
+        ensures { OnOk result (out.new.items ≡ out.old.items ++ hexed (bytes self.now)) };
+}
 
 // The digit of a value below 16.
 fn digit_of(value: u8) -> u8
@@ -16,41 +27,72 @@ fn digit_of(value: u8) -> u8
     }
 }
 
-// Adds a byte to a text.
-pub(crate) fn write_byte(out: &mut Vec<u8>, byte: u8) -> Result<(), AllocError>
-    ensures { OnOk result (out.new.items ≡ out.old.items ++ hexed (byte ∷ [])) }
-{
-    out.extend_from_slice(&[digit_of(byte / 16), digit_of(byte % 16)])
-}
+impl Part for u8 {
+    ghost bytes = { λ byte. byte ∷ [] };
 
-// Adds bytes to a text.
-pub(crate) fn write_bytes(out: &mut Vec<u8>, bytes: &[u8]) -> Result<(), AllocError>
-    ensures { OnOk result (out.new.items ≡ out.old.items ++ hexed bytes.now) }
-{
-    for byte in bytes {
-        write_byte(out, *byte)?;
+    fn write(&self, out: &mut Vec<u8>) -> Result<(), AllocError> {
+        out.extend_from_slice(&[digit_of(*self / 16), digit_of(*self % 16)])
     }
-    Ok(())
 }
 
-// Adds a number of 2, 4 or 8 bytes to a text, the highest byte first.
-pub(crate) fn write_u16(out: &mut Vec<u8>, n: u16) -> Result<(), AllocError>
-    ensures { OnOk result (out.new.items ≡ out.old.items ++ hexed (big_endian 2 n)) }
-{
-    write_bytes(out, &n.to_be_bytes())?;
-    Ok(())
+impl<const N: usize> Part for [u8; N] {
+    ghost bytes = { λ bytes. bytes };
+
+    fn write(&self, out: &mut Vec<u8>) -> Result<(), AllocError> {
+        for byte in self {
+            byte.write(out)?;
+        }
+        Ok(())
+    }
 }
 
-pub(crate) fn write_u32(out: &mut Vec<u8>, n: u32) -> Result<(), AllocError>
-    ensures { OnOk result (out.new.items ≡ out.old.items ++ hexed (big_endian 4 n)) }
-{
-    write_bytes(out, &n.to_be_bytes())?;
-    Ok(())
+// Numbers are written the highest byte first. (An impl for each width: std has no bound for `to_be_bytes`.)
+impl Part for u16 {
+    ghost bytes = { big_endian 2 };
+
+    fn write(&self, out: &mut Vec<u8>) -> Result<(), AllocError> {
+        self.to_be_bytes().write(out)
+    }
 }
 
-pub(crate) fn write_u64(out: &mut Vec<u8>, n: u64) -> Result<(), AllocError>
-    ensures { OnOk result (out.new.items ≡ out.old.items ++ hexed (big_endian 8 n)) }
-{
-    write_bytes(out, &n.to_be_bytes())?;
-    Ok(())
+impl Part for u32 {
+    ghost bytes = { big_endian 4 };
+
+    fn write(&self, out: &mut Vec<u8>) -> Result<(), AllocError> {
+        self.to_be_bytes().write(out)
+    }
+}
+
+impl Part for u64 {
+    ghost bytes = { big_endian 8 };
+
+    fn write(&self, out: &mut Vec<u8>) -> Result<(), AllocError> {
+        self.to_be_bytes().write(out)
+    }
+}
+
+impl Part for Kind {
+    ghost bytes = { λ kind. kind_byte kind ∷ [] };
+
+    fn write(&self, out: &mut Vec<u8>) -> Result<(), AllocError> {
+        u8::from(*self).write(out)
+    }
+}
+
+impl Part for () {
+    ghost bytes = { λ _. [] };
+
+    fn write(&self, _out: &mut Vec<u8>) -> Result<(), AllocError> {
+        Ok(())
+    }
+}
+
+// One part and then another.
+impl<A: Part, B: Part> Part for (A, B) {
+    ghost bytes = { λ both. A.bytes both.0 ++ B.bytes both.1 };
+
+    fn write(&self, out: &mut Vec<u8>) -> Result<(), AllocError> {
+        self.0.write(out)?;
+        self.1.write(out)
+    }
 }

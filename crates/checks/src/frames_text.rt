@@ -9,7 +9,7 @@ use leap::bulletin::Bulletin;
 use refusals::fault::{Cause, Fault, Way};
 use refusals::refusal::Refusal;
 use std::test::Fail;
-use wire::answer::Answer;
+use wire::kind::{Kind, UnknownKind};
 
 const EVENT: LicenceEvent = LicenceEvent {
     action: Action::Taken,
@@ -34,25 +34,24 @@ fn a_put_is_read_and_written(rt: HostRuntime) -> Result<(), Fail> {
 
 #[test]
 fn calls_are_written_as_frames(rt: HostRuntime) -> Result<(), Fail> {
-    let mut text = Vec::new(rt.alloc());
-    write_call(
-        &mut text,
+    let calls = [
         Call::Put {
             feed: 2,
             stamp: (1_483_228_800, 0),
             body: EVENT,
         },
-    )?;
-    write_call(&mut text, Call::Close { feed: 255 })?;
-    write_call(&mut text, Call::Take)?;
-    write_call(
-        &mut text,
+        Call::Close { feed: 255 },
+        Call::Take,
         Call::Renew(Bulletin {
             change: 1,
             day: 20_089,
             expiry: 20_270,
         }),
-    )?;
+    ];
+    let mut text = Vec::new(rt.alloc());
+    for call in calls {
+        write_call(&mut text, call)?;
+    }
     assert_eq!(rt;
         text.as_slice(),
         b"010200000000586846800000000000000000010000002a0007\n02ff\n03\n040100004e7900004f2e\n".as_slice()
@@ -62,21 +61,22 @@ fn calls_are_written_as_frames(rt: HostRuntime) -> Result<(), Fail> {
 
 #[test]
 fn other_lines_are_no_frames(rt: HostRuntime) {
-    assert_eq!(rt; decode(b""), Err(Refusal::Malformed));
-    assert_eq!(rt; decode(b"3"), Err(Refusal::Malformed));
-    assert_eq!(rt; decode(b"03\r"), Err(Refusal::Malformed));
-    assert_eq!(rt; decode(b"02FF"), Err(Refusal::Malformed));
-    assert_eq!(rt; decode(b"0\0"), Err(Refusal::Malformed));
-    assert_eq!(rt; decode(b"040100004e7900004f2e00"), Err(Refusal::Malformed));
-    assert_eq!(rt;
-        decode(b"010200000000586846800000000000000000040000002a0007"),
-        Err(Refusal::Malformed)
-    );
+    let lines = [
+        b"".as_slice(),
+        b"3".as_slice(),
+        b"03\r".as_slice(),
+        b"02FF".as_slice(),
+        b"0\0".as_slice(),
+        b"040100004e7900004f2e00".as_slice(),
+        b"010200000000586846800000000000000000040000002a0007".as_slice(),
+    ];
+    for line in lines {
+        assert_eq!(rt; decode(line), Err(Refusal::Malformed));
+    }
 }
 
 #[test]
 fn answers_are_written_as_lines(rt: HostRuntime) -> Result<(), Fail> {
-    let mut text = Vec::new(rt.alloc());
     let fault = Fault {
         cause: Cause::Expired,
         rung: 2,
@@ -88,25 +88,19 @@ fn answers_are_written_as_lines(rt: HostRuntime) -> Result<(), Fail> {
         tick: 1_483_228_837_000_000_000,
         body: EVENT,
     };
-    write_answer(&mut text, Answer::NoFrame)?;
-    write_answer(
-        &mut text,
-        Answer::Replied(Reply::Put(Ok(1_483_228_837_000_000_000))),
-    )?;
-    write_answer(
-        &mut text,
-        Answer::Replied(Reply::Put(Err(Refusal::Clock(fault)))),
-    )?;
-    write_answer(&mut text, Answer::Replied(Reply::Take(Ok(handed))))?;
-    write_answer(
-        &mut text,
-        Answer::Replied(Reply::Take(Err(Refusal::NoneWaits { idle: 6, feed: 3 }))),
-    )?;
-    write_answer(&mut text, Answer::Replied(Reply::Close(Ok(()))))?;
-    write_answer(
-        &mut text,
-        Answer::Replied(Reply::Renew(Err(Refusal::TableLimit))),
-    )?;
+    let answers = [
+        Err(Refusal::Malformed),
+        Ok(Reply::Put(Ok(1_483_228_837_000_000_000))),
+        Ok(Reply::Put(Err(Refusal::Clock(fault)))),
+        Ok(Reply::Take(Ok(handed))),
+        Ok(Reply::Take(Err(Refusal::NoneWaits { idle: 6, feed: 3 }))),
+        Ok(Reply::Close(Ok(()))),
+        Ok(Reply::Renew(Err(Refusal::TableLimit))),
+    ];
+    let mut text = Vec::new(rt.alloc());
+    for answer in answers {
+        write_answer(&mut text, answer)?;
+    }
     assert_eq!(rt;
         text.as_slice(),
         b"0001\n010014957cc4ce003200\n010b02010000000000000001\n03000214957cc4ce003200010000002a0007\n031106\n0200\n0416\n".as_slice()
@@ -117,10 +111,26 @@ fn answers_are_written_as_lines(rt: HostRuntime) -> Result<(), Fail> {
 #[test]
 fn lines_end_at_line_feeds_or_the_end(rt: HostRuntime) {
     let mut reader = FrameReader::new(b"03\n\n02\r\n01");
-    assert_eq!(rt; reader.next_line(), Some(b"03".as_slice()));
-    assert_eq!(rt; reader.next_line(), Some(b"".as_slice()));
-    assert_eq!(rt; reader.next_line(), Some(b"02\r".as_slice()));
-    assert_eq!(rt; reader.next_line(), Some(b"01".as_slice()));
-    assert_eq!(rt; reader.next_line(), None);
-    assert_eq!(rt; FrameReader::new(b"").next_line(), None);
+    assert_eq!(rt; reader.next(), Some(b"03".as_slice()));
+    assert_eq!(rt; reader.next(), Some(b"".as_slice()));
+    assert_eq!(rt; reader.next(), Some(b"02\r".as_slice()));
+    assert_eq!(rt; reader.next(), Some(b"01".as_slice()));
+    assert_eq!(rt; reader.next(), None);
+    assert_eq!(rt; FrameReader::new(b"").next(), None);
+}
+
+#[test]
+fn frames_begin_with_the_bytes_1_to_4(rt: HostRuntime) {
+    let kinds = [
+        (Kind::Put, 1),
+        (Kind::Close, 2),
+        (Kind::Take, 3),
+        (Kind::Renew, 4),
+    ];
+    for (kind, byte) in kinds {
+        assert_eq!(rt; u8::from(kind), byte);
+        assert_eq!(rt; Kind::try_from(byte), Ok(kind));
+    }
+    assert_eq!(rt; Kind::try_from(0u8), Err(UnknownKind(0)));
+    assert_eq!(rt; Kind::try_from(5u8), Err(UnknownKind(5)));
 }

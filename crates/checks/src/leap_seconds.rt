@@ -140,9 +140,7 @@ fn an_offset_cannot_fall_below_zero(rt: HostRuntime) -> Result<(), Fail> {
         entry(1004, 1),
         entry(1035, 0),
     ];
-    let Some(mut table) = LeapTable::from_parts(&entries, 1040) else {
-        return Err(Fail::new("not sound"));
-    };
+    let mut table = LeapTable::from_parts(&entries, 1040).ok_or("not sound")?;
     assert_eq!(rt;
         table.renew(bulletin(2, 1096, 1100)),
         Err(Refusal::TableLimit)
@@ -159,7 +157,7 @@ fn a_table_without_its_properties_is_not_made(rt: HostRuntime) {
     assert!(rt; LeapTable::from_parts(&[entry(730, 10)], 730).is_none());
     assert!(rt; LeapTable::from_parts(&[entry(730, 10)], 84_007).is_none());
     assert!(rt; LeapTable::from_parts(&[entry(730, 11)], 800).is_none());
-    assert!(rt; LeapTable::from_parts(&[entry(730, 10), entry(761, 12)], 800).is_none());
-    assert!(rt; LeapTable::from_parts(&[entry(730, 10), entry(762, 11)], 800).is_none());
-    assert!(rt; LeapTable::from_parts(&[entry(730, 10), entry(730, 11)], 800).is_none());
+    for second in [entry(761, 12), entry(762, 11), entry(730, 11)] {
+        assert!(rt; LeapTable::from_parts(&[entry(730, 10), second], 800).is_none());
+    }
 }

@@ -1,23 +1,22 @@
 // The numbers that refusals, faults and actions go by.
-use calls::event::Action;
+use calls::event::{Action, UnknownAction};
 use refusals::fault::{Cause, Fault, Way};
 use refusals::refusal::Refusal;
 
-const CAUSES: [Cause; 8] = [
-    Cause::Field,
-    Cause::Window,
-    Cause::NoCount,
-    Cause::BeforeTable,
-    Cause::Expired,
-    Cause::NoSuchSecond,
-    Cause::InsertedSecond,
-    Cause::NotMultiple,
+const CAUSES: [(Cause, u8); 8] = [
+    (Cause::Field, 7),
+    (Cause::Window, 8),
+    (Cause::NoCount, 9),
+    (Cause::BeforeTable, 10),
+    (Cause::Expired, 11),
+    (Cause::NoSuchSecond, 12),
+    (Cause::InsertedSecond, 13),
+    (Cause::NotMultiple, 14),
 ];
 
 #[test]
 fn faults_have_the_numbers_from_7_to_14(rt: HostRuntime) {
-    let mut number = 7u8;
-    for cause in CAUSES {
+    for (cause, number) in CAUSES {
         let fault = Fault {
             cause,
             rung: 0,
@@ -25,7 +24,6 @@ fn faults_have_the_numbers_from_7_to_14(rt: HostRuntime) {
             count: 0,
         };
         assert_eq!(rt; Refusal::Clock(fault).number(), number);
-        number = number.saturating_add(1);
     }
     assert_eq!(rt; Way::Reading.number(), 0);
     assert_eq!(rt; Way::Showing.number(), 1);
@@ -57,9 +55,15 @@ fn refusals_have_their_numbers(rt: HostRuntime) {
 
 #[test]
 fn actions_have_the_codes_1_to_3(rt: HostRuntime) {
-    assert_eq!(rt; Action::Taken.code(), 1);
-    assert_eq!(rt; Action::GivenBack.code(), 2);
-    assert_eq!(rt; Action::Denied.code(), 3);
-    assert!(rt; Action::from_code(0).is_none());
-    assert!(rt; Action::from_code(4).is_none());
+    let actions = [
+        (Action::Taken, 1),
+        (Action::GivenBack, 2),
+        (Action::Denied, 3),
+    ];
+    for (action, code) in actions {
+        assert_eq!(rt; u8::from(action), code);
+        assert_eq!(rt; Action::try_from(code), Ok(action));
+    }
+    assert_eq!(rt; Action::try_from(0u8), Err(UnknownAction(0)));
+    assert_eq!(rt; Action::try_from(4u8), Err(UnknownAction(4)));
 }

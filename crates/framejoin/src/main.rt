@@ -6,10 +6,6 @@ use standard::bank::STANDARD_BANK;
 use std::io::{Read, Write};
 
 fn main(rt: HostRuntime) -> anyhow::Result<()> {
-    run(&rt)
-}
-
-fn run(rt: &HostRuntime) -> anyhow::Result<()> {
     let mut input = Vec::new(rt.alloc());
     rt.stdin().take(INPUT_LIMIT as u64).read_to_end(&mut input)?;
     let answers = answer_lines(rt.alloc(), STANDARD_BANK, input.as_slice())?;

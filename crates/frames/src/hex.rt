@@ -1,26 +1,12 @@
-// Lower-case hexadecimal text, two digits a byte.
-ghost use Rattle.std.specs.Prelude.{◌≡◌, ℕ, ◌<◌, ◌≤◌, List, length, take, MatchOption, ◌≢◌};
+// Lower-case hexadecimal text, two digits a byte. (The kit's `hex` reads upper-case digits too, which no frame has.)
+ghost use Rattle.std.specs.Prelude.{◌≡◌, ℕ, ◌<◌, ◌≤◌, List, length, MatchOption, ◌≢◌};
 ghost use Rattle.wire.specs.Bytes.{hex_digit, hexed, Bytes};
+ghost use Rattle.wire.specs.Frame.{longest_frame};
+
+use arrayvec::ArrayVec;
 
 // No frame has more bytes.
-pub(crate) const LONGEST: usize = 25;
-
-// The bytes of one line, before they are taken apart.
-#[derive(Clone, Copy)]
-pub(crate) struct LineBytes {
-    bytes: [u8; 25],
-    len: usize,
-    ghost sized: { length bytes ≡ 25 },
-    ghost within: { len ≤ 25 },
-}
-
-impl LineBytes {
-    pub(crate) fn as_slice(&self) -> &[u8]
-        ensures { result.now ≡ take self.now.len self.now.bytes }
-    {
-        &self.bytes[0..self.len]
-    }
-}
+const LONGEST: usize = 25;
 
 // The value of one digit.
 fn digit_value(digit: u8) -> Option<u8>
@@ -34,22 +20,16 @@ fn digit_value(digit: u8) -> Option<u8>
 }
 
 // The bytes that a line of text writes, if it writes any, and no more than a frame can have.
-pub(crate) fn unhex(line: &[u8]) -> Option<LineBytes>
-    ensures { MatchOption result ((bs : List ℕ) → Bytes bs → length bs ≤ 25 → hexed bs ≢ line.now) (λ b. Bytes (take b.len b.bytes) × (hexed (take b.len b.bytes) ≡ line.now)) }
+pub(crate) fn unhex(line: &[u8]) -> Option<ArrayVec<u8, LONGEST>>
+    ensures { MatchOption result ((bs : List ℕ) → Bytes bs → length bs ≤ longest_frame → hexed bs ≢ line.now) (λ b. Bytes b.items × (hexed b.items ≡ line.now)) }
 {
-    if line.len() > 2 * LONGEST || line.len() % 2 != 0 {
+    let (pairs, []) = line.as_chunks::<2>() else {
         return None;
+    };
+    let mut bytes = ArrayVec::new();
+    for [high, low] in pairs {
+        let byte = digit_value(*high)? * 16 + digit_value(*low)?;
+        bytes.try_push(byte).ok()?;
     }
-    let len = line.len() / 2;
-    let mut bytes = [0; 25];
-    for i in 0..len {
-        let Some(high) = digit_value(line[2 * i]) else {
-            return None;
-        };
-        let Some(low) = digit_value(line[2 * i + 1]) else {
-            return None;
-        };
-        bytes[i] = high * 16 + low;
-    }
-    Some(LineBytes { bytes, len })
+    Some(bytes)
 }

@@ -1,11 +1,14 @@
 // The lines of an input, one at a time.
-ghost use Rattle.std.specs.Prelude.{◌≡◌, ◌+◌, ◌<◌, ◌≤◌, min, length, OnSome};
+ghost use Rattle.std.specs.Prelude.{◌≡◌, ◌≤◌, length, ◌==◌};
+ghost use Rattle.std.specs.List.{position};
+ghost use Rattle.std.specs.Iterator.{item_count};
 ghost use Rattle.std.specs.Option.{option_map};
-ghost use Rattle.wire.specs.Lines.{line_length, ReadsLine};
+ghost use Rattle.wire.specs.Bytes.{line_feed};
+ghost use Rattle.wire.specs.Lines.{lines_from, NextLine};
 
 use wire::text::LINE_FEED;
 
-// Reads the lines of an input, each as a part of it, and knows the place that it has come to.
+/// Reads the lines of an input, each as a part of it, and knows the place that it has come to.
 #[derive(Drop)]
 pub struct FrameReader<'a> {
     input: &'a [u8],
@@ -14,47 +17,38 @@ pub struct FrameReader<'a> {
 }
 
 impl<'a> FrameReader<'a> {
+    /// A reader at the start of an input.
     pub fn new(input: &'a [u8]) -> FrameReader<'a>
-        ensures { (result.input.now ≡ input.now) × (result.place ≡ 0) }
+        ensures input { result.input.now ≡ input.now }
+        ensures place { result.place ≡ 0 }
     {
         FrameReader { input, place: 0 }
     }
+}
+
+impl<'a> Iterator for FrameReader<'a> {
+    type Item = &'a [u8];
+
+    // By a relation of our own: with `YieldsFirstRef` and clauses on `next` (tried), a `for` over the reader gets no proof.
+    ghost next_gives = { λ r line s. NextLine r.input.now r.place (option_map (λ x. x.now) line) s.input.now s.place };
+
+    ghost remaining = { item_count (λ r. lines_from r.input.now r.place) };
 
     // The next line, without its line feed.
-    pub fn next_line(&mut self) -> Option<&'a [u8]>
-        ensures reads { ReadsLine self.old.input.now self.old.place (option_map (λ x. x.now) result) self.new.place }
-        ensures goes { OnSome result (self.old.place < self.new.place) }
-        ensures same { self.new.input.now ≡ self.old.input.now }
-    {
-        let input = self.input;
-        if self.place >= input.len() {
+    fn next(&mut self) -> Option<&'a [u8]> {
+        let rest = &self.input[self.place..];
+        if rest.is_empty() {
             return None;
         }
-        let (_, rest) = input.split_at(self.place);
-        let length = first_line_length(rest);
-        let (line, _) = rest.split_at(length);
-        self.place = past(self.place + length, input.len());
-        Some(line)
+        let length = first_line_feed(rest).unwrap_or(rest.len());
+        self.place = self.input.len().min(self.place + length + 1);
+        Some(&rest[..length])
     }
 }
 
-// How many bytes stand before the first line feed.
-fn first_line_length(bytes: &[u8]) -> usize
-    ensures value { result ≡ line_length bytes.now }
-    ensures bound { result ≤ length bytes.now }
+// Where the first line feed stands.
+fn first_line_feed(bytes: &[u8]) -> Option<usize>
+    ensures { result ≡ position (λ b. b == line_feed) bytes.now }
 {
-    for (i, b) in bytes.iter().enumerate() {
-        if *b == LINE_FEED {
-            return i;
-        }
-    }
-    bytes.len()
-}
-
-// The place after the line feed at `end`, or the end itself where there is none.
-fn past(end: usize, length: usize) -> usize
-    requires { end ≤ length }
-    ensures { result ≡ min length (end + 1) }
-{
-    if end < length { end + 1 } else { end }
+    bytes.iter().position(|b| *b == LINE_FEED)
 }

@@ -5,8 +5,7 @@ use Rattle.std.proofs.lemmas.Bool.{cases_lt}
 use Rattle.calls.specs.declared.event.LicenceEvent.{LicenceEvent}
 use Rattle.clocks.specs.Banks.{BankMeaning}
 use Rattle.order.specs.Desk.{Desk, Event, Run}
-use Rattle.wire.specs.declared.answer.Answer.{Answer}
-use Rattle.wire.specs.Answer.{answer_line}
+use Rattle.wire.specs.Answer.{Answer, answer_line}
 use Rattle.wire.specs.Lines.{lines_of, input_limit}
 use Rattle.session.specs.Session.{Answers, no_frame, replied, Session, over, answered}
 
@@ -38,8 +37,8 @@ session_run m d e lines out vs (answered p q r line ls a more us ws (no_frame n)
 session_run m d e lines out vs (answered p q r line ls a more us ws (replied c b v h w x y) s) = (q, y, session_run m q r ls more ws s)
 
 -- the bytes that count
-pub cut : (xs front : List ℕ) (n : ℕ) → n ≡ min (length xs) 65536 → front ≡ take n xs → front ≡ take input_limit xs
-cut xs front n e f = elim (cases_lt (length xs) 65536) [
-  | inl l ↦ let s : n ≡ length xs = omega arith in f ∙ take_all n xs (omega arith) ∙ sym (take_all 65536 xs (omega arith))
-  | inr g ↦ let s : n ≡ 65536 = omega arith in f ∙ ap (λ (k : ℕ). take k xs) s
+pub cut : (xs : List ℕ) (n : ℕ) → n ≡ min (length xs) 65536 → take n xs ≡ take input_limit xs
+cut xs n e = elim (cases_lt (length xs) 65536) [
+  | inl l ↦ take_all n xs (omega arith) ∙ sym (take_all 65536 xs (omega arith))
+  | inr g ↦ let s : n ≡ 65536 = omega arith in ap (λ (k : ℕ). take k xs) s
 ]

@@ -12,7 +12,7 @@ use joiner::joiner::Joiner;
 use joiner::shelf::Shelf;
 use wire::answer::Answer;
 
-// What a joiner on its shelf answers to a line of text.
+/// What a joiner on its shelf answers to a line of text.
 pub fn answer_line<B: Bank>(
     joiner: &mut Joiner<B>,
     shelf: &mut Shelf<'_, LicenceEvent>,
@@ -22,8 +22,6 @@ pub fn answer_line<B: Bank>(
     ensures kept { joiner.new.bank ≡ joiner.old.bank }
     ensures lent { shelf.new.slots.ghost_name ≡ shelf.old.slots.ghost_name }
 {
-    match decode(line) {
-        Ok(call) => Answer::Replied(joiner.call(shelf, call)),
-        Err(_) => Answer::NoFrame,
-    }
+    let call = decode(line)?;
+    Ok(joiner.call(shelf, call))
 }

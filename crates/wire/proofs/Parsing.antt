@@ -8,7 +8,7 @@ use Rattle.calls.specs.declared.event.Action.TheVariants.{Taken, GivenBack, Deni
 use Rattle.calls.specs.declared.event.LicenceEvent.{LicenceEvent}
 use Rattle.calls.specs.Event.{action_of, action_code}
 use Rattle.wire.specs.Bytes.{big_endian, hexed, Bytes}
-use Rattle.wire.specs.Frame.{frame_bytes, frame_line, event_bytes, FitsFrame}
+use Rattle.wire.specs.Frame.{frame_bytes, frame_line, event_bytes, longest_frame, FitsFrame}
 use Rattle.wire.specs.Decoder.{pair_at, quad_at, eight_at, event_by, event_of, put_by, if_long, call_of, parsed}
 use Rattle.wire.proofs.Bigs.{pair_back, quad_back, eight_back, pair_there, quad_there, eight_there, bytes_big}
 use Rattle.wire.proofs.Hexes.{bytes_at, bytes_append, hexed_one}
@@ -54,15 +54,19 @@ behind (suc n) i x xs = ap (λ (ys : List ℕ). get_or xs i 0 ∷ ys) (behind n 
 
 spelled : (n : ℕ) (xs : List ℕ) → length xs ≡ n → from_on n 0 xs ≡ xs
 spelled zero [] h = refl
-spelled zero (x ∷ xs) h = let z : ⊥ = omega arith in absurd z
-spelled (suc n) [] h = let z : ⊥ = omega arith in absurd z
+spelled zero (x ∷ xs) h = absurd (omega arith)
+spelled (suc n) [] h = absurd (omega arith)
 spelled (suc n) (x ∷ xs) h = ap (λ (ys : List ℕ). x ∷ ys) (behind n 0 x xs ∙ spelled n xs (omega arith))
 
 -- and what is left behind them
 spelled_with : (n : ℕ) (xs : List ℕ) → n ≤ length xs → from_on n 0 xs ++ drop n xs ≡ xs
 spelled_with zero xs h = refl
-spelled_with (suc n) [] h = let z : ⊥ = omega arith in absurd z
+spelled_with (suc n) [] h = absurd (omega arith)
 spelled_with (suc n) (x ∷ xs) h = ap (λ (ys : List ℕ). x ∷ (ys ++ drop n xs)) (behind n 0 x xs) ∙ ap (λ (ys : List ℕ). x ∷ ys) (spelled_with n xs (omega arith))
+
+bytes_from : (n i : ℕ) (xs : List ℕ) → Bytes xs → Bytes (from_on n i xs)
+bytes_from zero i xs bytes = tt
+bytes_from (suc n) i xs bytes = (bytes_at xs bytes i, bytes_from n (suc i) xs bytes)
 
 bytes_drop : (n : ℕ) (xs : List ℕ) → Bytes xs → Bytes (drop n xs)
 bytes_drop zero xs b = b
@@ -72,7 +76,7 @@ bytes_drop (suc n) (x ∷ xs) b = bytes_drop n xs b.1
 -- a test that was passed on the way to an answer
 passed : {A : Type 0} (b : Bool) (o : Option A) (c : A) → cond b o None ≡ Some c → (b ≡ true) × (o ≡ Some c)
 passed true o c e = (refl, e)
-passed false o c e = let z : ◌≡◌ {A = ℕ} 0 1 = cc in absurd (omega arith)
+passed false o c e = cc
 
 action_back : (n : ℕ) (a : Action) → action_of n ≡ Some a → action_code a ≡ n
 action_back n a e = elim (cases_Bool (eqb n 1)) [
@@ -81,50 +85,42 @@ action_back n a e = elim (cases_Bool (eqb n 1)) [
     | inl u ↦ let g = rw u at f in let s : GivenBack ≡ a = cc in ap action_code (sym s) ∙ sym (eqb-true n 2 u)
     | inr u ↦ let g = rw u at f in elim (cases_Bool (eqb n 3)) [
       | inl v ↦ let h = rw v at g in let s : Denied ≡ a = cc in ap action_code (sym s) ∙ sym (eqb-true n 3 v)
-      | inr v ↦ let h = rw v at g in let z : ◌≡◌ {A = ℕ} 0 1 = cc in absurd (omega arith)
+      | inr v ↦ let h = rw v at g in cc
     ]
   ]
 ]
 
-same_bytes : (x x' : ℕ) (m n m' n' : List ℕ) → x ≡ x' → m ≡ m' → n ≡ n' → x ∷ (m ++ n) ≡ x' ∷ (m' ++ n')
-same_bytes x x' m n m' n' p q r = cc
-
 event_back : (xs : List ℕ) → Bytes xs → length xs ≡ 7 → (e : LicenceEvent) (o : Option Action) → action_of (get_or xs 0 0) ≡ o → event_by xs o ≡ Some e → event_bytes e ≡ xs
-event_back xs bytes h e None s q = let z : ◌≡◌ {A = ℕ} 0 1 = cc in absurd (omega arith)
+event_back xs bytes h e None s q = cc
 event_back xs bytes h e (Some a) s q =
     let same : e ≡ record { action = a; seat = quad_at xs 1; tool = pair_at xs 5 } = cc in
-    ap event_bytes same
-    ∙ same_bytes (action_code a) (get_or xs 0 0) (big_endian 4 (quad_at xs 1)) (big_endian 2 (pair_at xs 5)) (from_on 4 1 xs) (from_on 2 5 xs)
-    (action_back (get_or xs 0 0) a s)
-    (quad_back (get_or xs 1 0) (get_or xs 2 0) (get_or xs 3 0) (get_or xs 4 0) (bytes_at xs bytes 1) (bytes_at xs bytes 2) (bytes_at xs bytes 3) (bytes_at xs bytes 4))
-    (pair_back (get_or xs 5 0) (get_or xs 6 0) (bytes_at xs bytes 5) (bytes_at xs bytes 6))
-    ∙ spelled 7 xs h
+    let code = action_back (get_or xs 0 0) a s in
+    let seat = quad_back (from_on 4 1 xs) (bytes_from 4 1 xs bytes) refl in
+    let tool = pair_back (from_on 2 5 xs) (bytes_from 2 5 xs bytes) refl in
+    ap event_bytes same ∙ cc (code, seat, tool) ∙ spelled 7 xs h
 
 module _ (xs : List ℕ) (bytes : Bytes xs) where
-  at : (k : ℕ) → get_or xs k 0 < 256
-  at k = bytes_at xs bytes k
-
   same_parts : (p : ℕ) (k l m k' l' m' : List ℕ) → k ≡ k' → l ≡ l' → m ≡ m' → p ∷ (k ++ (l ++ m)) ≡ p ∷ (k' ++ (l' ++ m'))
   same_parts p k l m k' l' m' a b c = cc
 
   put_back : 17 ≤ length xs → (e : LicenceEvent) → event_bytes e ≡ drop 17 xs → frame_bytes (Put (get_or xs 0 0) (eight_at xs 1, eight_at xs 9) e) ≡ 1 ∷ xs
   put_back h e s = ap (λ (ys : List ℕ). 1 ∷ ys) (same_parts (get_or xs 0 0)
       (big_endian 8 (eight_at xs 1)) (big_endian 8 (eight_at xs 9)) (event_bytes e) (from_on 8 1 xs) (from_on 8 9 xs) (drop 17 xs)
-      (eight_back (get_or xs 1 0) (get_or xs 2 0) (get_or xs 3 0) (get_or xs 4 0) (get_or xs 5 0) (get_or xs 6 0) (get_or xs 7 0) (get_or xs 8 0) (at 1, (at 2, (at 3, (at 4, (at 5, (at 6, (at 7, (at 8, tt)))))))))
-      (eight_back (get_or xs 9 0) (get_or xs 10 0) (get_or xs 11 0) (get_or xs 12 0) (get_or xs 13 0) (get_or xs 14 0) (get_or xs 15 0) (get_or xs 16 0) (at 9, (at 10, (at 11, (at 12, (at 13, (at 14, (at 15, (at 16, tt)))))))))
+      (eight_back (from_on 8 1 xs) (bytes_from 8 1 xs bytes) refl)
+      (eight_back (from_on 8 9 xs) (bytes_from 8 9 xs bytes) refl)
       s
       ∙ spelled_with 17 xs h)
 
   renewal_back : length xs ≡ 9 → frame_bytes (Renew (record { change = get_or xs 0 0; day = quad_at xs 1; expiry = quad_at xs 5 })) ≡ 4 ∷ xs
   renewal_back h =
-      let d = quad_back (get_or xs 1 0) (get_or xs 2 0) (get_or xs 3 0) (get_or xs 4 0) (at 1) (at 2) (at 3) (at 4) in
-      let x = quad_back (get_or xs 5 0) (get_or xs 6 0) (get_or xs 7 0) (get_or xs 8 0) (at 5) (at 6) (at 7) (at 8) in
+      let d = quad_back (from_on 4 1 xs) (bytes_from 4 1 xs bytes) refl in
+      let x = quad_back (from_on 4 5 xs) (bytes_from 4 5 xs bytes) refl in
       ap (λ (ys : List ℕ). 4 ∷ (get_or xs 0 0 ∷ (ys ++ big_endian 4 (quad_at xs 5)))) d
       ∙ ap (λ (ys : List ℕ). 4 ∷ (get_or xs 0 0 ∷ (from_on 4 1 xs ++ ys))) x
       ∙ ap (λ (ys : List ℕ). 4 ∷ ys) (spelled 9 xs h)
 
   put_parsed : (c : Call LicenceEvent) (o : Option LicenceEvent) → event_of (drop 17 xs) ≡ o → put_by xs o ≡ Some c → frame_bytes c ≡ 1 ∷ xs
-  put_parsed c None s q = let z : ◌≡◌ {A = ℕ} 0 1 = cc in absurd (omega arith)
+  put_parsed c None s q = cc
   put_parsed c (Some e) s q =
       let ys : List ℕ = drop 17 xs in
       let p = passed (eqb (length ys) 7) (event_by ys (action_of (get_or ys 0 0))) e s in
@@ -153,10 +149,10 @@ module _ (xs : List ℕ) (bytes : Bytes xs) where
   ]
 
 pub parsed_writes : (bs : List ℕ) (c : Call LicenceEvent) → Bytes bs → parsed bs ≡ Some c → frame_bytes c ≡ bs
-parsed_writes [] c t e = let z : ◌≡◌ {A = ℕ} 0 1 = cc in absurd (omega arith)
+parsed_writes [] c t e = cc
 parsed_writes (kind ∷ xs) c t e = kind_parsed xs t.1 kind c e
 
--- the bytes of a frame are bytes, and at most 25
+-- the bytes of a frame are bytes, and no more than the longest has
 pub frame_fits : (c : Call LicenceEvent) → FitsFrame c → Bytes (frame_bytes c)
 frame_fits (Put feed stamp event) h =
     let seat_tool = bytes_append (big_endian 4 event.seat) (big_endian 2 event.tool) (bytes_big 4 event.seat) (bytes_big 2 event.tool) in
@@ -172,7 +168,7 @@ frame_fits (Close feed) h = (omega arith, (h, tt))
 frame_fits Take h = (omega arith, tt)
 frame_fits (Renew b) h = (omega arith, (h.0, bytes_append (big_endian 4 b.day) (big_endian 4 b.expiry) (bytes_big 4 b.day) (bytes_big 4 b.expiry)))
 
-pub frame_short : (c : Call LicenceEvent) → length (frame_bytes c) ≤ 25
+pub frame_short : (c : Call LicenceEvent) → length (frame_bytes c) ≤ longest_frame
 frame_short (Put feed stamp event) = omega arith
 frame_short (Close feed) = omega arith
 frame_short Take = omega arith

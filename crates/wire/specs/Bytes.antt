@@ -1,10 +1,10 @@
 -- Numbers as bytes, the highest first, and bytes as hexadecimal text.
-use Rattle.std.specs.Prelude.{ℕ, zero, suc, ◌+◌, ◌/◌, ◌%◌, ◌<◌, cond, List, [], ◌∷◌, ◌++◌, nat_lt}
+use Rattle.std.specs.Prelude.{ℕ, ◌+◌, ◌/◌, ◌%◌, ◌<◌, cond, List, [], ◌∷◌, nat_lt}
+use Rattle.std.specs.Int.{bytes_high_first}
 
 -- the last k bytes of n, the highest first
 abbrev pub big_endian : ℕ → ℕ → List ℕ
-big_endian zero n = []
-big_endian (suc k) n = big_endian k (n / 256) ++ (n % 256 ∷ [])
+big_endian = bytes_high_first
 
 -- each of the numbers is a byte
 abbrev pub Bytes : List ℕ → Type 0

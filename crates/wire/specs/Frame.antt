@@ -17,6 +17,10 @@ frame_bytes (Close feed) = 2 ∷ (feed ∷ [])
 frame_bytes Take = 3 ∷ []
 frame_bytes (Renew b) = 4 ∷ (b.change ∷ (big_endian 4 b.day ++ big_endian 4 b.expiry))
 
+-- no frame has more bytes
+abbrev pub longest_frame : ℕ
+longest_frame = 25
+
 -- the line of text that a call is written as, without its line feed
 abbrev pub frame_line : Call LicenceEvent → List ℕ
 frame_line c = hexed (frame_bytes c)

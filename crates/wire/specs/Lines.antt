@@ -1,5 +1,5 @@
 -- The lines of an input.
-use Rattle.std.specs.Prelude.{◌≡◌, ℕ, suc, ◌+◌, min, cond, List, [], ◌∷◌, ◌++◌, length, take, drop, Some, None, Option, ◌==◌, nat_lt}
+use Rattle.std.specs.Prelude.{◌≡◌, ℕ, suc, ◌+◌, ◌<◌, min, cond, List, [], ◌∷◌, ◌++◌, length, take, drop, Some, None, Option, OnSome, ◌==◌, nat_lt}
 use Rattle.std.specs.Option.{option_to_list}
 use Rattle.wire.specs.Bytes.{line_feed}
 
@@ -16,6 +16,10 @@ begun_with x (l ∷ ls) = (x ∷ l) ∷ ls
 abbrev pub lines_of : List ℕ → List (List ℕ)
 lines_of [] = []
 lines_of (x ∷ xs) = cond (x == line_feed) ([] ∷ lines_of xs) (begun_with x (lines_of xs))
+
+-- the lines that begin at or after a place of the input
+abbrev pub lines_from : List ℕ → ℕ → List (List ℕ)
+lines_from xs place = lines_of (drop place xs)
 
 -- how many bytes stand before the first line feed
 abbrev pub line_length : List ℕ → ℕ
@@ -35,3 +39,9 @@ pub record ReadsLine (xs : List ℕ) (place : ℕ) (line : Option (List ℕ)) (t
   pub which : line ≡ line_at xs place
   pub moves : then ≡ place_after xs place
   pub lines_left : lines_of (drop place xs) ≡ option_to_list line ++ lines_of (drop then xs)
+
+-- a call of a reader that reads this line, if one is left, and leaves a reader of the same input at another place
+pub record NextLine (xs : List ℕ) (place : ℕ) (line : Option (List ℕ)) (ys : List ℕ) (then : ℕ) : Type 0 where
+  pub reads : ReadsLine xs place line then
+  pub goes : OnSome line (place < then)
+  pub same : ys ≡ xs

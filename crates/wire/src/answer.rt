@@ -1,11 +1,7 @@
 // What a line of the input is answered.
 use calls::call::Reply;
 use calls::event::LicenceEvent;
+use refusals::refusal::Refusal;
 
-#[derive(Clone, Copy)]
-pub enum Answer {
-    // the line is no frame: refusal 1
-    NoFrame,
-    // the line is a frame, and its call was answered so
-    Replied(Reply<LicenceEvent>),
-}
+/// What the line's call was replied, or the refusal of a line that makes no call.
+pub type Answer = Result<Reply<LicenceEvent>, Refusal>;

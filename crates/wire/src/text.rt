@@ -1,2 +1,2 @@
-// The byte that closes a line.
+/// The byte that closes a line.
 pub const LINE_FEED: u8 = b'\n';

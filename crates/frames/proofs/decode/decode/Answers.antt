@@ -1,31 +1,30 @@
-use Rattle.std.proofs.Common.{◌≡◌, ℕ, take, Some, sym, refl, ap, ◌∙◌, arith}
-use Rattle.wire.specs.Frame.{frame_bytes}
+use Rattle.std.proofs.Common.{◌≡◌, ℕ, List, Some, None, Option, MatchResult, refl, sym, ap, ◌∙◌}
+use Rattle.std.specs.Option.{ok_or}
+use Rattle.std.proofs.lemmas.Option.{MatchOption-at_none, MatchOption-at_some}
+use Rattle.refusals.specs.declared.refusal.Refusal.TheVariants.{Malformed}
+use Rattle.calls.specs.declared.call.Call.{Call}
+use Rattle.calls.specs.declared.event.LicenceEvent.{LicenceEvent}
+use Rattle.wire.specs.Bytes.{hexed, Bytes}
+use Rattle.wire.specs.Frame.{frame_bytes, frame_line}
 use Rattle.wire.specs.Decoder.{parsed}
 use Rattle.wire.proofs.Parsing.{decodes_as, decoded_writes, frame_fits, frame_short}
 use Rattle.frames.proofs.decode.decode.Goals as goal
 
-pub returns-in_default : goal.returns-in_default
-returns-in_default c = record { writes = refl; inverts = λ call fits same. absurd (c.in_default.ensures (frame_bytes call) (frame_fits call fits) (frame_short call) same) }
+pub returns-in_err-bytes-clause-inverts : goal.returns-in_err-bytes-clause-inverts
+returns-in_err-bytes-clause-inverts c = λ call fits same.
+    absurd (MatchOption-at_none _ _ c.in_err-bytes.ensures.ok_part c.unhex.ensures (frame_bytes call) (frame_fits call fits) (frame_short call) same)
 
-pub returns-in_default-parse : goal.returns-in_default-parse
-returns-in_default-parse c =
-    let bs = take c.in-Some.bytes.len c.in-Some.bytes.bytes in
-    record {
-      writes = refl;
-      inverts = λ call fits same.
-          let there = decodes_as bs c.args.line.now call c.in-Some.ensures.1 fits same in
-          let read = ap parsed c.as_slice.ensures in
-          let none = c.in_default-parse.is in
-          let made = c.parse.ensures in
-          let z : ◌≡◌ {A = ℕ} 0 1 = cc in
-          absurd (omega arith);
-    }
+writes : (o : Option (Call LicenceEvent)) (bs line : List ℕ) → Bytes bs → hexed bs ≡ line → parsed bs ≡ o → MatchResult (ok_or o Malformed) (λ c. frame_line c ≡ line) (λ e. e ≡ Malformed)
+writes None bs line t e p = refl
+writes (Some c) bs line t e p = decoded_writes bs line c t e p
 
-pub returns : goal.returns
-returns c =
-    let bs = take c.in-Some.bytes.len c.in-Some.bytes.bytes in
-    let read : parsed bs ≡ Some c.in-Some-parse.call = ap parsed (sym c.as_slice.ensures) ∙ sym c.parse.ensures ∙ c.in-Some-parse.is in
-    record {
-      writes = decoded_writes bs c.args.line.now c.in-Some-parse.call c.in-Some.ensures.0 c.in-Some.ensures.1 read;
-      inverts = λ call fits same. let there = decodes_as bs c.args.line.now call c.in-Some.ensures.1 fits same in cc;
-    }
+pub returns-clause-writes : goal.returns-clause-writes
+returns-clause-writes c =
+    let bytes = MatchOption-at_some _ _ _ c.in_ok-bytes.ensures.ok_part c.unhex.ensures in
+    rw c.ok_or-2.ensures.value (writes c.parse.result c.in_ok-bytes.bytes.items c.args.line.now bytes.0 bytes.1 (ap parsed (sym c.as_slice.ensures.value) ∙ sym c.parse.ensures))
+
+pub returns-clause-inverts : goal.returns-clause-inverts
+returns-clause-inverts c = λ call fits same.
+    let bytes = MatchOption-at_some _ _ _ c.in_ok-bytes.ensures.ok_part c.unhex.ensures in
+    let there = decodes_as c.in_ok-bytes.bytes.items c.args.line.now call bytes.1 fits same in
+    c.ok_or-2.ensures.value ∙ ap (λ (o : Option (Call LicenceEvent)). ok_or o Malformed) (c.parse.ensures ∙ ap parsed c.as_slice.ensures.value ∙ there)

@@ -1,6 +1,6 @@
-use Rattle.std.proofs.Common.{◌≡◌, ◌*◌, length, take}
+use Rattle.std.proofs.Common.{◌≡◌, ◌*◌, take}
 use Rattle.wire.specs.Bytes.{hexed, Bytes}
 use Rattle.frames.proofs.hex.unhex.Given as goal
 
-abbrev pub invariant-loop-i : goal.invariant-loop-i
-invariant-loop-i l = (length l.bytes ≡ 25) × Bytes (take l.i l.bytes) × (hexed (take l.i l.bytes) ≡ take (2 * l.i) l.line)
+abbrev pub invariant-loop-high : goal.invariant-loop-high
+invariant-loop-high l = record { bytes : Bytes l.bytes.items; so_far : hexed l.bytes.items ≡ take (2 * l.high-index) l.line }

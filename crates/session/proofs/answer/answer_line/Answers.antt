@@ -1,20 +1,18 @@
-use Rattle.std.proofs.Common.{◌≡◌, ℕ, [], ◌∷◌, refl, arith}
+use Rattle.std.proofs.Common.{[], ◌∷◌}
+use Rattle.std.proofs.lemmas.Result.{MatchResult-at_ok, MatchResult-at_err, err_from_is_err_and}
 use Rattle.joiner.specs.Joiner.{desk_of}
 use Rattle.session.specs.Session.{no_frame, replied}
 use Rattle.session.proofs.answer.answer_line.Goals as goal
 
-pub returns-in-Ok : goal.returns-in-Ok
-returns-in-Ok g c =
-    let v = c.call.ensures.called in
-    record {
-      answers = (v.0 ∷ [], replied c.in-Ok.call c.call.result v.0 (desk_of c.call.new.self c.call.new.shelf.slots.now) c.in-Ok.ensures.writes v.1 v.2);
-      kept = c.call.ensures.kept;
-      lent = c.call.ensures.lent;
-    }
+pub returns-in_err-call-clause-answers : goal.returns-in_err-call-clause-answers
+returns-in_err-call-clause-answers g c =
+    let decoded = c.in_err-call.was in
+    let malformed = MatchResult-at_err _ _ _ decoded c.decode.ensures.writes in
+    let p = err_from_is_err_and c.from_residual.result c.from_residual.ensures.1 in
+    rw (p.1, p.2, malformed) ([], no_frame (λ call fits same. cc (decoded, c.decode.ensures.inverts call fits same)))
 
-pub returns-in-Err : goal.returns-in-Err
-returns-in-Err g c = record {
-  answers = ([], no_frame (λ call fits same. let p = c.in-Err.ensures.inverts call fits same in let z : ◌≡◌ {A = ℕ} 0 1 = cc in absurd (omega arith)));
-  kept = refl;
-  lent = refl;
-}
+pub returns-clause-answers : goal.returns-clause-answers
+returns-clause-answers g c =
+    let writes = MatchResult-at_ok _ _ _ c.in_ok-call.was c.decode.ensures.writes in
+    let v = c.call.ensures.called in
+    (v.0 ∷ [], replied c.in_ok-call.call c.call.result v.0 (desk_of c.call.new.self c.call.new.shelf.slots.now) writes v.1 v.2)

@@ -1,0 +1,9 @@
+pub mod Cells
+pub mod CellRungs
+pub mod Days
+pub mod Leaps
+pub mod Folds
+pub mod Stretch
+pub mod Smears
+pub mod Telling
+pub mod Examples

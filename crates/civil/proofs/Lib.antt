@@ -1,0 +1,4 @@
+pub mod Dates
+pub mod Times
+pub mod Lawful
+pub mod Telling

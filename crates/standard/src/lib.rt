@@ -1,4 +1,4 @@
-// The standard bank, over which framejoin runs. It grows feed by feed.
+// The standard bank, over which framejoin runs.
 #![tactic(auto)]
 
 pub mod bank;

@@ -1,2 +1,3 @@
 pub mod Clocks
 pub mod Stamps
+pub mod Met

@@ -2,4 +2,5 @@
 #![tactic(auto)]
 
 pub mod clock;
+pub mod met;
 pub mod stamp;

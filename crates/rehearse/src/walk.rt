@@ -2,9 +2,8 @@
 use crate::rehearsal::Rehearsal;
 use crate::step::{Moment, Step, StepKind};
 use readable::clock::Clock;
+use readable::met::Met;
 use readable::stamp::Stamp;
-use refusals::refusal::Refusal;
-use std::alloc::AllocError;
 
 const LEGEND: [&str; 5] = [
     "tai, posix: seconds since 1970-01-01, as that clock counts them",
@@ -28,12 +27,12 @@ fn width(clock: Clock) -> usize {
 impl Rehearsal<'_, '_> {
     pub fn walk(&self, step: &Step) -> anyhow::Result<()> {
         self.print_heading(step)?;
-        let mut refused = Vec::new(self.rt.alloc());
+        let mut met = Met::new(self.rt.alloc());
         for moment in step.moments() {
-            self.print_row(moment, &mut refused)?;
+            self.print_row(moment, &mut met)?;
         }
         println!(self.rt)?;
-        for refusal in refused.iter() {
+        for refusal in met.refusals.iter() {
             println!(self.rt; "refused {}: {refusal}", refusal.number())?;
         }
         self.print_legend(step)
@@ -60,14 +59,14 @@ impl Rehearsal<'_, '_> {
     }
 
     // What the clocks show at a tick. What they refuse is noted.
-    fn print_row(&self, moment: Moment, refused: &mut Vec<Refusal>) -> anyhow::Result<()> {
+    fn print_row(&self, moment: Moment, met: &mut Met) -> anyhow::Result<()> {
         let Moment { name, tick } = moment;
         print!(self.rt; "{name:<8}")?;
         for clock in Clock::ALL {
             let cell = match self.joiner.show(clock.feed(), tick) {
                 Ok(fields) => Stamp { clock, fields }.to_string(self.rt.alloc())?,
                 Err(refusal) => {
-                    note(refused, refusal)?;
+                    met.note(refusal)?;
                     format!(in self.rt.alloc(); "refused {}", refusal.number())?
                 }
             };
@@ -88,15 +87,4 @@ impl Rehearsal<'_, '_> {
         )?;
         Ok(())
     }
-}
-
-// Each kind of refusal once.
-fn note(refused: &mut Vec<Refusal>, refusal: Refusal) -> Result<(), AllocError> {
-    if !refused
-        .iter()
-        .any(|known| known.number() == refusal.number())
-    {
-        refused.push(refusal)?;
-    }
-    Ok(())
 }

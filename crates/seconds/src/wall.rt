@@ -2,16 +2,15 @@
 use crate::grid::Row;
 use leap::table::LeapTable;
 use readable::clock::Clock;
+use readable::met::Met;
 use readable::stamp::Stamp;
-use refusals::refusal::Refusal;
 use std::alloc::{AllocError, Global};
 
 #[derive(Drop)]
 pub(crate) struct Wall {
     alloc: Global,
     table: LeapTable,
-    // one refusal of each number that was met
-    met: Vec<Refusal>,
+    met: Met,
 }
 
 impl Wall {
@@ -19,7 +18,7 @@ impl Wall {
         Wall {
             alloc,
             table,
-            met: Vec::new(alloc),
+            met: Met::new(alloc),
         }
     }
 
@@ -44,18 +43,10 @@ impl Wall {
         match Stamp::of(clock, &self.table, tick) {
             Ok(stamp) => stamp.to_string(self.alloc),
             Err(refusal) => {
-                self.meet(refusal)?;
+                self.met.note(refusal)?;
                 format!(in self.alloc; "refused {}", refusal.number())
             }
         }
-    }
-
-    fn meet(&mut self, refusal: Refusal) -> Result<(), AllocError> {
-        let number = refusal.number();
-        if !self.met.iter().any(|met| met.number() == number) {
-            self.met.push(refusal)?;
-        }
-        Ok(())
     }
 
     // What the columns hold, and why a clock refused.
@@ -64,7 +55,7 @@ impl Wall {
         for clock in Clock::ALL {
             println!(rt; "  {clock:<10}  {}", meaning(clock))?;
         }
-        for refusal in &self.met {
+        for refusal in &self.met.refusals {
             println!(rt; "  refused {:<2}  {refusal}", refusal.number())?;
         }
         Ok(())

@@ -1,5 +1,5 @@
 -- The standard clocks by their feeds and by their names.
-use Rattle.std.specs.Prelude.{◌≡◌, ◌≢◌, ℕ, List, Result, MatchResult, codes}
+use Rattle.std.specs.Prelude.{◌≡◌, ◌≢◌, ℕ, List, ◌++◌, Result, MatchResult, codes}
 use Rattle.readable.specs.declared.clock.Clock.{Clock}
 use Rattle.readable.specs.declared.clock.Clock.TheVariants.{Tai, Utc, Posix, Smear, Ntp, Gps}
 
@@ -22,3 +22,7 @@ clock_name Gps = codes "gps"
 -- the result is the clock that has the name, and there is none where it is refused
 abbrev pub Named : {E : Type 0} → List ℕ → Result Clock E → Type 0
 Named word r = MatchResult r (λ clock. word ≡ clock_name clock) (λ _. (clock : Clock) → word ≢ clock_name clock)
+
+-- a word that no clock goes by, in a sentence
+abbrev pub unknown_words : List ℕ → List ℕ
+unknown_words word = codes "no clock is called " ++ word ++ codes ": expected tai, utc, posix, smear, ntp or gps"

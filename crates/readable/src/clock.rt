@@ -1,6 +1,6 @@
 // The clocks of the standard bank.
-ghost use Rattle.std.specs.Prelude.{◌≡◌, Some};
-ghost use Rattle.readable.specs.Clocks.{feed_number, clock_name, Named};
+ghost use Rattle.std.specs.Prelude.{◌≡◌, Some, IfErr};
+ghost use Rattle.readable.specs.Clocks.{feed_number, clock_name, unknown_words, Named};
 
 use std::error::Error;
 use std::fmt;
@@ -70,7 +70,7 @@ impl fmt::Display for Clock {
 impl<'a> TryFrom<&'a str> for Clock {
     type Error = UnknownClock<'a>;
 
-    ghost try_from_gives = { λ word. Named word.now };
+    ghost try_from_gives = { λ word r. Named word.now r × IfErr r (λ e. e.0.now ≡ word.now) };
 
     fn try_from(word: &'a str) -> Result<Clock, UnknownClock<'a>> {
         match word {
@@ -86,6 +86,8 @@ impl<'a> TryFrom<&'a str> for Clock {
 }
 
 impl fmt::Display for UnknownClock<'_> {
+    ghost output = { λ e. Some (unknown_words e.0.now) };
+
     fn fmt<W: fmt::Write>(&self, f: &mut fmt::Formatter<W>) -> fmt::Result {
         let word = self.0;
         write!(

@@ -1,5 +1,5 @@
 // The refusals that were met, each number once: what a legend below a table explains.
-ghost use Rattle.std.specs.Prelude.{◌≡◌, [], OnOk};
+ghost use Rattle.std.specs.Prelude.{◌≡◌, [], OnErr, OnOk};
 ghost use Rattle.readable.specs.Met.{has_number, noted};
 
 use refusals::refusal::Refusal;
@@ -21,9 +21,10 @@ impl Met {
         }
     }
 
-    /// Notes a refusal, if none of its number was noted before.
+    /// Notes a refusal, if none of its number was noted before. Without memory nothing is noted.
     pub fn note(&mut self, refusal: Refusal) -> Result<(), AllocError>
-        ensures { OnOk result (self.new.refusals.items ≡ noted self.old.refusals.items refusal) }
+        ensures ok { OnOk result (self.new.refusals.items ≡ noted self.old.refusals.items refusal) }
+        ensures err { OnErr result (self.new.refusals.items ≡ self.old.refusals.items) }
     {
         if !self.has(refusal.number()) {
             self.refusals.push(refusal)?;

@@ -1,4 +1,5 @@
-// Smeared time in a window with an inserted second and in one with a deleted second. In a window that opens at W, what stands e ticks after it by smeared time stands e * A / 86,400 after it by TAI, rounded up, with A the window's seconds in TAI.
+// Smeared time in a window with an inserted second and in one with a deleted second. In a window that opens at W, what stands e ticks after it by
+// smeared time stands e * A / 86,400 after it by TAI, rounded up, with A the window's seconds in TAI.
 use crate::answers::{DELETED, SMEARED, is_not_read, read_refusal, ticks, ties};
 use clocks::rung::Rung;
 use leap::table::LeapTable;

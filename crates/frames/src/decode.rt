@@ -60,12 +60,34 @@ fn parse_put(bytes: &[u8]) -> Option<Call<LicenceEvent>>
     let [feed, rest @ ..] = bytes else {
         return None;
     };
-    let (hi, rest) = rest.split_first_chunk::<8>()?;
-    let (lo, event) = rest.split_first_chunk::<8>()?;
+    let [
+        h0,
+        h1,
+        h2,
+        h3,
+        h4,
+        h5,
+        h6,
+        h7,
+        l0,
+        l1,
+        l2,
+        l3,
+        l4,
+        l5,
+        l6,
+        l7,
+        event @ ..,
+    ] = rest
+    else {
+        return None;
+    };
+    let hi = u64::from_be_bytes([*h0, *h1, *h2, *h3, *h4, *h5, *h6, *h7]);
+    let lo = u64::from_be_bytes([*l0, *l1, *l2, *l3, *l4, *l5, *l6, *l7]);
     let body = parse_event(event)?;
     Some(Call::Put {
         feed: *feed,
-        stamp: (u64::from_be_bytes(*hi), u64::from_be_bytes(*lo)),
+        stamp: (hi, lo),
         body,
     })
 }

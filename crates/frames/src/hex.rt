@@ -23,6 +23,10 @@ fn digit_value(digit: u8) -> Option<u8>
 pub(crate) fn unhex(line: &[u8]) -> Option<ArrayVec<u8, LONGEST>>
     ensures { MatchOption result ((bs : List ℕ) → Bytes bs → length bs ≤ longest_frame → hexed bs ≢ line.now) (λ b. Bytes b.items × (hexed b.items ≡ line.now)) }
 {
+    // a line that is too long is refused before any of it is read
+    if line.len() > 2 * LONGEST {
+        return None;
+    }
     let (pairs, []) = line.as_chunks::<2>() else {
         return None;
     };

@@ -1,30 +1,34 @@
-use Rattle.std.proofs.Common.{◌≡◌, ℕ, ◌+◌, ◌-◌, ◌<◌, List, length, get_or, take, drop, ap, ◌∙◌, arith, length-drop}
-use Rattle.std.specs.Int.{w64, from_be_bytes}
-use Rattle.std.proofs.lemmas.List.{take_all, get_or-take, get_or-drop, drop-drop}
+use Rattle.std.proofs.Common.{◌≡◌, ℕ, ◌-◌, ◌<◌, List, [], ◌∷◌, length, take, drop, ap, ◌∙◌, arith, length-drop, rules}
+use Rattle.std.proofs.lemmas.List.{take_all}
 use Rattle.wire.specs.Decoder.{eight_at, event_of, put_by}
 use Rattle.wire.proofs.Parsing.{same_put}
 use Rattle.frames.proofs.decode.parse_put.Goals as goal
 
--- the numbers that the eight bytes of either half write
-module _ (xs : List ℕ) where
-  at : (n k : ℕ) → k < 8 → get_or (take 8 (drop n xs)) k 0 ≡ get_or xs (n + k) 0
-  at n k h = get_or-take 8 (drop n xs) k 0 h ∙ get_or-drop n xs k 0
+-- what `name @ ..` behind n bytes is
+abbrev behind : ℕ → List ℕ → List ℕ
+behind n xs = take (length xs - n) (drop n xs)
 
-  first_half : from_be_bytes w64 (take 8 (drop 1 xs)) ≡ eight_at xs 1
-  first_half = omega (arith, at 1 0 (omega arith), at 1 1 (omega arith), at 1 2 (omega arith), at 1 3 (omega arith), at 1 4 (omega arith), at 1 5 (omega arith), at 1 6 (omega arith), at 1 7 (omega arith))
+all_behind : (n : ℕ) (xs : List ℕ) → behind n xs ≡ drop n xs
+all_behind n xs = take_all (length xs - n) (drop n xs) (omega (arith, length-drop n xs))
 
-  second_half : from_be_bytes w64 (take 8 (drop 9 xs)) ≡ eight_at xs 9
-  second_half = omega (arith, at 9 0 (omega arith), at 9 1 (omega arith), at 9 2 (omega arith), at 9 3 (omega arith), at 9 4 (omega arith), at 9 5 (omega arith), at 9 6 (omega arith), at 9 7 (omega arith))
+-- one byte and then sixteen are seventeen
+seventeen : (xs : List ℕ) → 0 < length xs → behind 16 (behind 1 xs) ≡ drop 17 xs
+seventeen [] h = absurd (omega arith)
+seventeen (x ∷ xs) h = all_behind 16 (behind 1 (x ∷ xs)) ∙ ap (drop 16) (all_behind 1 (x ∷ xs))
+
+first_half : (xs : List ℕ) → 0 < length xs → eight_at (behind 1 xs) 0 ≡ eight_at xs 1
+first_half [] h = absurd (omega arith)
+first_half (x ∷ xs) h = ap (λ (ys : List ℕ). eight_at ys 0) (all_behind 1 (x ∷ xs))
+
+second_half : (xs : List ℕ) → 0 < length xs → eight_at (behind 1 xs) 8 ≡ eight_at xs 9
+second_half [] h = absurd (omega arith)
+second_half (x ∷ xs) h = ap (λ (ys : List ℕ). eight_at ys 8) (all_behind 1 (x ∷ xs))
 
 pub returns : goal.returns
 returns c =
     let xs : List ℕ = c.args.bytes.now in
-    let hi = c.in_ok-hi.ensures.cases in
-    let lo = c.in_ok-lo.ensures.cases in
-    let after_feed : take (length xs - 1) (drop 1 xs) ≡ drop 1 xs = take_all (length xs - 1) (drop 1 xs) (omega (arith, length-drop 1 xs)) in
-    let after_hi : c.in_ok-hi.rest.now ≡ drop 9 xs = hi.1 ∙ ap (drop 8) after_feed ∙ drop-drop 8 1 xs in
-    let after_lo : c.in_ok-lo.event.now ≡ drop 17 xs = lo.1 ∙ ap (drop 8) after_hi ∙ drop-drop 8 9 xs in
-    same_put _ _ _ _ _ c.in_ok-body.body
-    (c.from_be_bytes.ensures ∙ ap (from_be_bytes w64) (hi.0 ∙ ap (take 8) after_feed) ∙ first_half xs)
-    (c.from_be_bytes-2.ensures ∙ ap (from_be_bytes w64) (lo.0 ∙ ap (take 8) after_hi) ∙ second_half xs)
-    ∙ ap (put_by xs) (c.in_ok-body.ensures ∙ ap event_of after_lo)
+    let l : 0 < length xs = search rules in
+    let hi : c.from_be_bytes-hi.result ≡ eight_at (behind 1 xs) 0 = search rules in
+    let lo : c.from_be_bytes-lo.result ≡ eight_at (behind 1 xs) 8 = search rules in
+    same_put _ _ _ _ _ c.in_ok-body.body (hi ∙ first_half xs l) (lo ∙ second_half xs l)
+    ∙ ap (put_by xs) (c.in_ok-body.ensures ∙ ap event_of (seventeen xs l))

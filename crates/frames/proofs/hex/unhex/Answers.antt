@@ -1,7 +1,10 @@
 use Rattle.std.proofs.Common.{◌≡◌, ◌+◌, ◌*◌, ◌<◌, ◌≤◌, [], ◌∷◌, ◌++◌, length, ap, length-take, arith}
 use Rattle.std.proofs.lemmas.Grind.{common_steps}
-use Rattle.wire.proofs.Hexes.{bytes_append, hexed_more, high_digit, low_digit, hexed_length}
+use Rattle.wire.proofs.Hexes.{bytes_append, hexed_more, high_digit, low_digit, hexed_length, too_long}
 use Rattle.frames.proofs.hex.unhex.Goals as goal
+
+pub returns-then-line : goal.returns-then-line
+returns-then-line c = λ bs b h e. omega (arith, too_long bs c.args.line.now 25 e h)
 
 pub returns-in_default : goal.returns-in_default
 returns-in_default c = λ bs b h e. omega (arith, hexed_length bs, ap length e, c.as_chunks.ensures.back_len)

@@ -4,3 +4,4 @@ mod Masking
 mod Putting
 mod Closing
 mod Taking
+pub mod Always

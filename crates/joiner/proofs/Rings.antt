@@ -12,7 +12,7 @@ mod_wraps_once N j below = elim (cases_lt j N) [
 ]
 
 module _ (N : ℕ) (xs : List ℕ) where
-  ring_length : (k n : ℕ) → length (ring_from N xs k n) ≡ n
+  pub ring_length : (k n : ℕ) → length (ring_from N xs k n) ≡ n
   ring_length k zero = refl
   ring_length k (suc n) = ap suc (ring_length ((k + 1) % N) n)
 

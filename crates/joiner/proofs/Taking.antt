@@ -8,18 +8,18 @@ use Rattle.calls.specs.declared.call.Handed.{Handed}
 use Rattle.order.specs.declared.state.FeedState.{FeedState}
 use Rattle.order.specs.declared.state.FeedState.TheVariants.{Idle, Holding, Closing, Closed}
 use Rattle.order.specs.Desk.{State, feed_state, held, released, rest, TakeAnswer, take_if_short, take_at, after_take, idle_count, waits_none}
-use Rattle.order.specs.Queue.{has_record}
+use Rattle.order.specs.Queue.{has_record, Queued, Counted}
 use Rattle.order.proofs.Masks.{some_idle}
-use Rattle.order.proofs.Queues.{Waiting, head_inside, take_waiting}
+use Rattle.order.proofs.Queues.{Waiting, queued_less, head_inside, take_waiting}
 use Rattle.joiner.specs.declared.moves.Move.TheVariants.{Take}
 use Rattle.joiner.specs.Moves.{changed}
 
 -- the queue begins with its first
-begins : (q : List ℕ) (f : ℕ) → Some f ≡ slice_get q 0 → q ≡ f ∷ rest q
+pub begins : (q : List ℕ) (f : ℕ) → Some f ≡ slice_get q 0 → q ≡ f ∷ rest q
 begins [] f e = absurd (none-some f (sym e))
 begins (x ∷ q) f e = let s : f ≡ x = cc in ap (λ (z : ℕ). z ∷ q) (sym s)
 
-released_as : (v : FeedState) → changed v Take ≡ released v
+pub released_as : (v : FeedState) → changed v Take ≡ released v
 released_as Idle = refl
 released_as (Holding t) = refl
 released_as (Closing t) = refl
@@ -48,6 +48,14 @@ module _ (xs : List FeedState) (q : List ℕ) (f : ℕ) (head : Some f ≡ slice
 
     pub take_waits : (ys : List FeedState) (p : List ℕ) → ys ≡ set xs f (changed v Take) → p ≡ rest q → Waiting ys p
     take_waits ys p a b = rw (a, b, released_as v) (take_waiting xs f (rest q) (released v) (released_none v) led)
+
+-- where its record leaves, the queue still has each feed with a record once, and is as long as there are such feeds
+module _ (xs : List FeedState) (q : List ℕ) (f : ℕ) (head : Some f ≡ slice_get q 0) (queued : Queued xs q) (v : FeedState) (at : Some v ≡ slice_get xs f) where
+  pub take_counted : Counted xs (length q) → Counted (set xs f (released v)) (length (rest q))
+  take_counted c = (take_waiting xs f (rest q) (released v) (released_none v) (led xs q f head (c, queued))).0
+
+  pub take_queued : Queued (set xs f (released v)) (rest q)
+  take_queued = queued_less xs f (released v) (rest q) (slice_get_within xs f v (sym at)) (released_none v) (subst (Queued xs) (begins q f head) queued)
 
 module _ {T : Type 0} (s : State) (slots : List T) (f t : ℕ) (head : Some f ≡ slice_get s.queue 0) (v : FeedState) (at : slice_get s.feeds f ≡ Some v) where
   pub take_answered : (j : ℕ) (d : T) → f < length s.feeds → length s.feeds ≤ length slots → j ≡ f → cond (has_record v) (Some (held v)) None ≡ Some t →

@@ -1,5 +1,7 @@
 // A joiner over a bank.
-ghost use Rattle.std.specs.Prelude.{length};
+ghost use Rattle.std.specs.Prelude.{◌≤◌, length};
+ghost use Rattle.leap.specs.Table.{Sound};
+ghost use Rattle.clocks.specs.Counts.{most_feeds};
 ghost use Rattle.order.specs.Queue.{Queued, Counted};
 
 use crate::feeds::{Feeds, PLACES};
@@ -17,6 +19,9 @@ pub struct Joiner<B> {
     pub(crate) queue: Queue<PLACES>,
     // the last accepted tick, whichever its feed; 0 before the first, and no Option: no tick is less, so the test for one that falls has no other case
     pub(crate) last: u64,
+    // the first two are said here too, since callers see no invariant of the models of the table and the feeds: joiner_sound and joiner_few of proofs/Always tell them of every joiner
+    ghost sound: { ∥ Sound table ∥₁ },
+    ghost few: { length feeds ≤ most_feeds },
     ghost counted: { Counted feeds (length queue) },
     ghost queued: { Queued feeds queue },
 }

@@ -15,19 +15,25 @@ use clocks::limits::MOST_FEEDS;
 use leap::table::LeapTable;
 use refusals::refusal::Refusal;
 
+// The size check of a bank that tells so many feeds, on so many slots.
+fn judge_size(feeds: u8, slots: usize) -> Result<(), Refusal>
+    ensures { told result ≡ size_answer feeds slots }
+{
+    if !(1..=MOST_FEEDS).contains(&feeds) {
+        return Err(Refusal::FeedCount);
+    }
+    if slots < usize::from(feeds) {
+        return Err(Refusal::ShortShelf);
+    }
+    Ok(())
+}
+
 impl<B: Bank> Joiner<B> {
     /// Whether a joiner over this bank and on this shelf would have feeds.
     pub fn check_size<T: Copy>(bank: &B, shelf: &Shelf<'_, T>) -> Result<(), Refusal>
         ensures { told result ≡ size_answer (B.Bank.meaning bank.now).feeds (length shelf.now.slots.now) }
     {
-        let feeds = bank.feeds();
-        if !(1..=MOST_FEEDS).contains(&feeds) {
-            return Err(Refusal::FeedCount);
-        }
-        if shelf.len() < usize::from(feeds) {
-            return Err(Refusal::ShortShelf);
-        }
-        Ok(())
+        judge_size(bank.feeds(), shelf.len())
     }
 
     /// A joiner with the starting table and every feed idle. Where the size check refuses it has no feeds, else all the bank's.
@@ -37,7 +43,8 @@ impl<B: Bank> Joiner<B> {
         ensures kept { result.bank ≡ bank }
         ensures promise { KeepsOrder (B.Bank.meaning bank) starting shelf.now.slots.now }
     {
-        let count = Self::check_size(&bank, shelf).map_or(0, |()| usize::from(bank.feeds()));
+        let feeds = bank.feeds();
+        let count = judge_size(feeds, shelf.len()).map_or(0, |()| usize::from(feeds));
         Joiner {
             bank,
             table: LeapTable::starting(),

@@ -54,11 +54,17 @@ pub record Kept {T : Type 0} (m : BankMeaning) (vs : List (Event T)) (d : Desk T
 -- ---- one more call
 
 module _ {T : Type 0} where
+  pub accepted-++ : (vs ws : List (Event T)) → accepted (vs ++ ws) ≡ accepted vs ++ accepted ws
+  accepted-++ vs ws = flat_map-append accepted_by vs ws
+
+  pub given-++ : (vs ws : List (Event T)) → given (vs ++ ws) ≡ given vs ++ given ws
+  given-++ vs ws = flat_map-append given_by vs ws
+
   accepted_push : (vs : List (Event T)) (v : Event T) → accepted (vs ++ v ∷ []) ≡ accepted vs ++ accepted_by v
-  accepted_push vs v = flat_map-append accepted_by vs (v ∷ []) ∙ ap (λ z. accepted vs ++ z) (append-nil (accepted_by v))
+  accepted_push vs v = accepted-++ vs (v ∷ []) ∙ ap (λ z. accepted vs ++ z) (append-nil (accepted_by v))
 
   given_push : (vs : List (Event T)) (v : Event T) → given (vs ++ v ∷ []) ≡ given vs ++ given_by v
-  given_push vs v = flat_map-append given_by vs (v ∷ []) ∙ ap (λ z. given vs ++ z) (append-nil (given_by v))
+  given_push vs v = given-++ vs (v ∷ []) ∙ ap (λ z. given vs ++ z) (append-nil (given_by v))
 
   accepted_none : (vs : List (Event T)) (v : Event T) → accepted_by v ≡ [] → accepted (vs ++ v ∷ []) ≡ accepted vs
   accepted_none vs v e = accepted_push vs v ∙ ap (λ z. accepted vs ++ z) e ∙ append-nil (accepted vs)

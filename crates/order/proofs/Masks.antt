@@ -8,7 +8,7 @@ use Rattle.std.proofs.lemmas.Option.{get_or_from_slice_get, slice_get-get_or, sl
 use Rattle.std.proofs.lemmas.List.Sums.{get_or-le-sum_by, length-filter}
 use Rattle.std.proofs.lemmas.List.{length-map, map-set}
 use Rattle.std.proofs.lemmas.Nat.{pow_below}
-use Rattle.std.proofs.lemmas.Simd.{ones-mask_l, trailing_mask_l, mask_l-mod}
+use Rattle.std.proofs.lemmas.Simd.{ones-mask_l, ones-mask_l_cons, trailing_mask_l, mask_l-mod}
 use Rattle.order.specs.declared.state.FeedState.{FeedState}
 use Rattle.order.specs.declared.state.FeedState.TheVariants.{Idle, Holding, Closing, Closed}
 use Rattle.order.specs.Queue.{is_idle, idle_mask}
@@ -122,3 +122,16 @@ some_idle xs f e =
     let inside = slice_get_within xs f Idle e in
     let one : ◌≡◌ {A = ℕ} 1 (cond (is_idle (get_or xs f Closed)) 1 0) = ap (λ v. cond (is_idle v) 1 0) (sym (get_or_from_slice_get xs f Idle Closed e)) in
     omega (arith, one, length-filter is_idle xs, get_or-le-sum_by (λ v. cond (is_idle v) 1 0) xs f Closed inside)
+
+-- a mask that is not 0 has a one
+pub some_ones : (bs : List Bool) → 0 < mask_l bs → 0 < ones (mask_l bs)
+some_ones [] h = absurd (not-suc-le-zero h)
+some_ones (true ∷ bs) h = omega (arith, ones-mask_l_cons true bs)
+some_ones (false ∷ bs) h = omega (arith, ones-mask_l_cons false bs, some_ones bs (omega arith))
+
+-- of the four states one is idle
+pub not_idle : (v : FeedState) → (v ≡ Idle → ⊥) → is_idle v ≡ false
+not_idle Idle n = absurd (n refl)
+not_idle (Holding t) n = refl
+not_idle (Closing t) n = refl
+not_idle Closed n = refl

@@ -1,9 +1,13 @@
 -- lemmas on lists
-use Rattle.std.proofs.Common.{◌≡◌, ℕ, zero, suc, ◌<◌, ◌≤◌, Bool, true, false, cond, List, [], ◌∷◌, ◌++◌, map, length, set, Some, filter, sym, refl, ap, ◌∙◌, subst, le_of_suc-le-suc, not-suc-le-zero, arith}
+use Rattle.std.proofs.Common.{◌≡◌, ℕ, zero, suc, ◌<◌, ◌≤◌, Bool, true, false, cond, List, [], ◌∷◌, ◌++◌, map, length, set, Some, None, filter, sym, refl, ap, ◌∙◌, subst, le_of_suc-le-suc, not-suc-le-zero, arith}
 use Rattle.std.specs.List.{All, slice_get}
-use Rattle.std.proofs.lemmas.Option.{get_or_from_slice_get, slice_get_within}
+use Rattle.std.proofs.lemmas.List.{map-append}
+use Rattle.std.proofs.lemmas.Option.{get_or_from_slice_get, slice_get_within, none-some}
 
 module _ {A : Type 0} where
+  pub none≢some : {a : A} → None ≡ Some a → ⊥
+  none≢some {a} e = none-some a e
+
   pub some_same : {a b : A} → Some a ≡ Some b → a ≡ b
   some_same e = cc
 
@@ -61,3 +65,6 @@ kept_map {A} {B} h p q e (x ∷ xs) = step (q (h x)) (p x) (e x) (kept_map h p q
     step true false k r = let z : ◌≡◌ {A = ℕ} 0 1 = cc in absurd (let n : ⊥ = omega arith in n)
     step false true k r = let z : ◌≡◌ {A = ℕ} 0 1 = cc in absurd (let n : ⊥ = omega arith in n)
     step false false k r = r
+
+pub map-++ : {A B : Type 0} (h : A → B) (xs ys : List A) → map h (xs ++ ys) ≡ map h xs ++ map h ys
+map-++ h xs ys = map-append h xs ys

@@ -6,7 +6,6 @@ use Rattle.std.specs.List.{All, slice_get}
 use Rattle.std.proofs.lemmas.Bool.{eq-eqb, eqb-true, ltb-false, cases_lt}
 use Rattle.std.proofs.Math.Seq.{take-append_seam, drop-append_seam}
 use Rattle.std.specs.List.Sorted.{IsNonDecreasing, IsNonDecreasingBy}
-use Rattle.std.proofs.lemmas.Grind.{flat_map-append}
 use Rattle.std.proofs.lemmas.List.{get_or-map, map-append}
 use Rattle.std.proofs.lemmas.List.Sorted.{IsNonDecreasingBy-short, IsNonDecreasingBy-take, IsNonDecreasingBy-drop, IsNonDecreasingBy-from_default}
 use Rattle.std.proofs.lemmas.List.Elements.{filter-append, All-nil, All-weaker, All-filter, filter_passes}
@@ -19,11 +18,11 @@ use Rattle.leap.specs.Table.{Table, Sound}
 use Rattle.clocks.specs.Counts.{Count}
 use Rattle.clocks.specs.Banks.{BankMeaning, LawfulBank}
 use Rattle.order.specs.Desk.{Desk, Event, Take, feed_state, admitted, admits, made, Step, Run}
-use Rattle.order.specs.History.{Record, handed, accepted, given, accepted_of, given_of, waiting, waiting_in, accepted_by, Waits}
+use Rattle.order.specs.History.{Record, handed, accepted, given, accepted_of, given_of, waiting, waiting_in, Waits}
 use Rattle.order.specs.Promise.{TrueTick, OrderKept}
 use Rattle.order.proofs.Rows.{nth_some, nth_map_front, some_same, all_nth, nth_seam, nth_after, kept_map}
 use Rattle.order.proofs.Steps.{take_ok}
-use Rattle.order.proofs.Kept.{pair, of_feed, tick_of, Good, Kept, step_keeps, First, first_of, in_range}
+use Rattle.order.proofs.Kept.{pair, of_feed, tick_of, Good, Kept, accepted-++, step_keeps, First, first_of, in_range}
 
 waits_some : {T : Type 0} (v : FeedState) (o : Option T) → 0 < length (waiting_in v o) → Waits v
 waits_some Idle o h = absurd (not-suc-le-zero h)
@@ -169,7 +168,7 @@ module _ {T : Type 0} (m : BankMeaning) (law : LawfulBank m) (start : Table) (so
 
     seam : accepted (before ++ v ∷ after) ≡ k.gone ++ (o.head ∷ more)
     seam =
-        flat_map-append accepted_by before (v ∷ after) ∙ ap (λ z. z ++ accepted (v ∷ after)) k.split
+        accepted-++ before (v ∷ after) ∙ ap (λ z. z ++ accepted (v ∷ after)) k.split
         ∙ append_assoc k.gone k.left (accepted (v ∷ after)) ∙ ap (λ z. k.gone ++ (z ++ accepted (v ∷ after))) o.is
 
     seam_of : (f : ℕ) → accepted_of f (before ++ v ∷ after) ≡ of_feed f k.gone ++ of_feed f (o.head ∷ more)

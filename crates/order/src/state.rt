@@ -1,13 +1,13 @@
 // What becomes of a feed.
 ghost use Rattle.std.specs.Prelude.{◌≡◌, cond, Some, None};
+ghost use Rattle.order.specs.declared.state.FeedState.TheVariants.{Idle};
 ghost use Rattle.order.specs.Desk.{held};
 ghost use Rattle.order.specs.Queue.{has_record};
 
 /// The state of a feed. (`Default` is what a vector of fixed capacity asks of its items.)
-#[derive(Clone, Copy, PartialEq, Eq, Debug, Default)]
+#[derive(Clone, Copy, PartialEq, Eq, Debug)]
 pub enum FeedState {
     /// it has no record waiting, and may be put to
-    #[default]
     Idle,
     /// its record of this tick waits
     Holding(u64),
@@ -15,6 +15,14 @@ pub enum FeedState {
     Closing(u64),
     /// it has ended
     Closed,
+}
+
+impl Default for FeedState {
+    ghost is_default = { λ s. s ≡ Idle };
+
+    fn default() -> Self {
+        Self::Idle
+    }
 }
 
 impl FeedState {

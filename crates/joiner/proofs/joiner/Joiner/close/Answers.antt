@@ -1,4 +1,4 @@
-use Rattle.std.proofs.Common.{set, sym, ap, ◌∙◌}
+use Rattle.std.proofs.Common.{set, sym, ap, ◌∙◌, length-set}
 use Rattle.order.specs.Desk.{State, done, closed_as}
 use Rattle.joiner.specs.Joiner.{state_of}
 use Rattle.joiner.proofs.Closing.{close_waits, close_done}
@@ -11,7 +11,7 @@ invariant_of-self g c =
     let ok = agreed c.in_ok-change.was c.change.ensures.answer in
     let waits = close_waits c.in_ok-state.state ok j.feeds _ j.queue c.args.feed (found c.state.ensures c.in_ok-state.ensures.ok_part) (j.counted, j.queued)
     (c.store.ensures ∙ ap (set j.feeds c.args.feed) c.change.ensures.after) in
-    record { counted = waits.0; queued = waits.1 }
+    record { sound = j.sound; few = simp (c.store.ensures, length-set) j.few; counted = waits.0; queued = waits.1 }
 
 pub returns-clause-answer : goal.returns-clause-answer
 returns-clause-answer g c =

@@ -1,4 +1,4 @@
-use Rattle.std.proofs.Common.{◌≤◌, length, set, Err, Result, sym, ap, ◌∙◌, arith}
+use Rattle.std.proofs.Common.{◌≤◌, length, set, Err, Result, sym, ap, ◌∙◌, arith, length-set}
 use Rattle.std.proofs.lemmas.Option.{slice_get_within}
 use Rattle.std.proofs.lemmas.Result.{err_from_is_err_and}
 use Rattle.refusals.specs.declared.refusal.Refusal.{Refusal}
@@ -35,7 +35,7 @@ invariant_of-self g c =
     let j = c.args.self.now in
     let waits = put_waits j.feeds j.queue c.args.feed c.in_ok-tick.tick c.in_ok-state.state c.tick_of-reading.result (found c.state.ensures c.in_ok-state.ensures.ok_part)
     (agreed c.in_ok-change.was c.change.ensures.answer) (j.counted, j.queued) _ _ c.in_ok-tick.was (c.store.ensures ∙ ap (λ v. set j.feeds c.args.feed v) c.change.ensures.after) c.push.ensures in
-    record { counted = waits.0; queued = waits.1 }
+    record { sound = j.sound; few = simp (c.store.ensures, length-set) j.few; counted = waits.0; queued = waits.1 }
 
 pub returns-clause-answer : goal.returns-clause-answer
 returns-clause-answer g c =

@@ -1,4 +1,4 @@
-use Rattle.std.proofs.Common.{◌≤◌, length, set, sym, ap, ◌∙◌, arith}
+use Rattle.std.proofs.Common.{◌≤◌, length, set, sym, ap, ◌∙◌, arith, length-set}
 use Rattle.std.proofs.lemmas.Option.{slice_get_within}
 use Rattle.joiner.specs.Joiner.{state_of}
 use Rattle.joiner.proofs.Taking.{has_state, has_tick, take_waits, take_answered, take_state}
@@ -24,7 +24,7 @@ invariant_of-self g c =
     let j = c.args.self.now in
     let waits = take_waits j.feeds j.queue c.in-Some.feed c.in-Some.ensures (j.counted, j.queued) c.in_ok-state.state (found c.state.ensures c.in_ok-state.ensures.ok_part)
     _ _ (c.store.ensures ∙ ap (set j.feeds c.in-Some.feed) c.change.ensures.after) c.pop.ensures in
-    record { counted = waits.0; queued = waits.1 }
+    record { sound = j.sound; few = simp (c.store.ensures, length-set) j.few; counted = waits.0; queued = waits.1 }
 
 pub returns-clause-answer : goal.returns-clause-answer
 returns-clause-answer g c =

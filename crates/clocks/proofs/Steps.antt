@@ -9,6 +9,13 @@ use Rattle.clocks.specs.Counts.{Count}
 use Rattle.clocks.specs.Rungs.{own_fault, refused_if, counted, answered}
 use Rattle.clocks.specs.Piles.{lowered, then_do}
 
+-- a fault is no answer, and an answer is one
+pub never : {A : Type 0} {X : Type 0} (z : Fault) (b : X) → ◌≡◌ {A = Result X Fault} (Err z) (Ok b) → A
+never z b e = absurd cc
+
+pub same : {X : Type 0} {x : Result X Fault} {a b : X} → x ≡ Ok a → x ≡ Ok b → a ≡ b
+same p q = cc
+
 pub then_ok : {A B : Type 0} (x : Result A Fault) (f : A → Result B Fault) {b : B} → then_do x f ≡ Ok b → (a : A) × (x ≡ Ok a) × (f a ≡ Ok b)
 then_ok (Ok a) f e = (a, refl, e)
 then_ok (Err z) f e = absurd cc

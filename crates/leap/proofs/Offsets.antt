@@ -1,5 +1,5 @@
 -- What a sound table says of its offsets.
-use Rattle.std.proofs.Common.{◌≡◌, ℕ, zero, suc, ◌+◌, ◌<◌, ◌≤◌, min, cond, leb, List, [], ◌∷◌, ◌++◌, length, Some, None, Option, MatchOption, Bor, reverse, sym, refl, ap, ◌∙◌, inl, inr, add-one, arith}
+use Rattle.std.proofs.Common.{◌≡◌, ℕ, zero, suc, ◌+◌, ◌<◌, ◌≤◌, min, cond, leb, List, [], ◌∷◌, ◌++◌, length, Some, None, Option, MatchOption, reverse, sym, refl, ap, ◌∙◌, inl, inr, add-one, arith}
 use Rattle.std.proofs.lemmas.List.{reverse-reverse}
 use Rattle.std.proofs.lemmas.Grind.{reverse_onto}
 use Rattle.std.specs.List.{find}
@@ -97,10 +97,10 @@ found_back o (e ∷ es) d =
 pub from_back : (o : ℕ) (es : List Entry) (d : ℕ) → offset_on o es d ≡ option_map_or offset_of (find (λ e. leb e.day d) (reverse es)) o
 from_back o es d = ap (λ (xs : List Entry). offset_on o xs d) (sym (reverse-reverse es)) ∙ found_back o (reverse es) d
 
--- the answer at what was found, by what is known of it there and where there is nothing
-pub answer_is : (P : Bor Entry → Type 0) (r : Option (Bor Entry)) (o n : ℕ) → MatchOption r (n ≡ o) P → ((e : Bor Entry) → P e → n ≡ e.now.offset) → n ≡ option_map_or offset_of (option_map (λ e. e.now) r) o
-answer_is P None o n nothing means = nothing
-answer_is P (Some e) o n found means = means e found
+-- the answer at what was found, which is seen as an entry, by what is known of it there and where there is nothing
+pub answer_is : {A : Type 0} (seen : A → Entry) (P : A → Type 0) (r : Option A) (o n : ℕ) → MatchOption r (n ≡ o) P → ((a : A) → P a → n ≡ (seen a).offset) → n ≡ option_map_or offset_of (option_map seen r) o
+answer_is seen P None o n nothing means = nothing
+answer_is seen P (Some a) o n found means = means a found
 
 -- a sound table has a first entry, and those that follow
 record Split (t : Table) : Type 0 where

@@ -14,7 +14,13 @@ impl LeapTable {
         ensures sound { Sound self.now }
     {
         // Days that are asked for are mostly late, so the newest entry is tried first.
-        let newest = self.in_use().iter().rev().find(|entry| entry.day <= day);
+        // Each entry is copied before its day is compared, so that it is loaded once.
+        let newest = self
+            .in_use()
+            .iter()
+            .rev()
+            .copied()
+            .find(|entry| entry.day <= day);
         newest.map_or(FIRST_ENTRY.offset, |entry| entry.offset)
     }
 
